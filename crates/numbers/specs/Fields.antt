@@ -1,0 +1,48 @@
+-- Number fields: decimal text with no leading zero and no plus, within two limits. Assumes nothing.
+use mathlib.Core.Path.{_≡_}
+use mathlib.Core.Bool.{Bool, cond, not, _&&_, _||_}
+use mathlib.Core.List.{List}
+use Prim.Native.Nat.{ℕ}
+use lib.Dec.{eqb, ltb}
+use lib.IntN.{ℤ, pos, negℤ}
+use lib.ListN.{length, getD, drop}
+use lib.Signed.{ltZ, _≤ℤ_}
+use Rattle.std.specs.Reads.{value}
+use Rattle.std.specs.Written.{signed}
+use Rattle.std.specs.shelf.Text.{allDigits}
+use Rattle.std.specs.declared.option.Option.{Option}
+use Rattle.std.specs.declared.option.Option.the-variants.{Some, None}
+
+-- digits, at least one, the first of them no zero unless it stands alone
+abbrev pub canonical : List ℕ → Bool
+canonical ds = allDigits ds && (eqb (length ds) 1 || ltb 48 (getD ds 0 0))
+
+-- digits that write a number of which a minus may stand in front: not zero
+abbrev pub negatable : List ℕ → Bool
+negatable ds = canonical ds && ltb 48 (getD ds 0 0)
+
+abbrev pub when : {A : Type 0} → Bool → A → Option A
+when test x = cond test (Some x) None
+
+-- the number that a field writes, if it writes one: 45 is the minus
+abbrev pub numeral : List ℕ → Option ℤ
+numeral bs =
+    cond (eqb (getD bs 0 0) 45)
+    (when (negatable (drop 1 bs)) (negℤ (pos (value 10 (drop 1 bs)))))
+    (when (canonical bs) (pos (value 10 bs)))
+
+-- a number from low to high, else nothing
+abbrev pub limited : ℤ → ℤ → Option ℤ → Option ℤ
+limited low high None = None
+limited low high (Some z) = when (not (ltZ z low) && not (ltZ high z)) z
+
+-- what a field with the limits low and high is read as
+abbrev pub number-field : ℤ → ℤ → List ℕ → Option ℤ
+number-field low high bs = limited low high (numeral bs)
+
+-- r is the number whose decimal text is the field, where one from low to high has it, and nothing else
+pub record Means (low high : ℤ) (bs : List ℕ) (r : Option ℤ) : Type 0 where
+  -- what is read lies within the limits, and the field is its text
+  pub sound : (z : ℤ) → r ≡ Some z → (bs ≡ signed z) × (low ≤ℤ z) × (z ≤ℤ high)
+  -- the text of each number within the limits is read as that number
+  pub complete : (z : ℤ) → bs ≡ signed z → low ≤ℤ z → z ≤ℤ high → r ≡ Some z
