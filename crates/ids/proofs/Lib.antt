@@ -1,0 +1,5 @@
+pub mod Stack
+pub mod Live
+pub mod Kept
+pub mod Adding
+pub mod Series

@@ -1,0 +1,4 @@
+pub mod Ids
+pub mod Record
+pub mod Calls
+pub mod Series

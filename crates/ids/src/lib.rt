@@ -1,0 +1,2 @@
+// The ids of a graph: which are live, which are vacated, which one is handed out next.
+pub mod record;
