@@ -1,0 +1,4 @@
+pub mod Fields
+pub mod Left
+pub mod Refusals
+pub mod Commands
