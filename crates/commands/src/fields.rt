@@ -7,7 +7,6 @@ ghost use Rattle.std.specs.Vec.{made};
 ghost use Rattle.commands.specs.Commands.{expected, number-at, id-at, label-at};
 ghost use Rattle.commands.specs.Fields.{fields, first, others, Parted};
 ghost use Rattle.commands.specs.Left.{left, fields-of};
-
 use crate::refusal::Refusal;
 use numbers::read_number;
 
@@ -18,20 +17,20 @@ pub struct Fields<'a> {
 }
 
 impl<'a> Fields<'a> {
-    pub fn new(rest: &'a [u8]) -> Fields<'a>
+    pub(crate) fn new(rest: &'a [u8]) -> Fields<'a>
         ensures { λ r. ⌜ left r ≡ fields (now (rest .entry)) ⌝ }
     {
         Fields { rest: Some(rest) }
     }
 
-    pub fn none() -> Fields<'a>
+    pub(crate) fn none() -> Fields<'a>
         ensures { λ r. ⌜ left r ≡ [] ⌝ }
     {
         Fields { rest: None }
     }
 
     // How many fields are left.
-    pub fn len(&self) -> usize
+    pub(crate) fn len(&self) -> usize
         ensures { λ r. ⌜ r ≡ length (left (now (self .entry))) ⌝ }
     {
         match self.rest {
@@ -41,7 +40,7 @@ impl<'a> Fields<'a> {
     }
 
     // The next field, or an empty one where none is left.
-    pub fn next(&mut self) -> &'a [u8]
+    pub(crate) fn next(&mut self) -> &'a [u8]
         ensures value { λ r. ⌜ now r ≡ first (left (now (self .entry))) ⌝ }
         ensures after { λ _. ⌜ left (now (self .exit)) ≡ others (left (now (self .entry))) ⌝ }
     {
@@ -54,7 +53,7 @@ impl<'a> Fields<'a> {
     }
 
     // That just so many fields are left; else the first missing or surplus field, where these begin at field 2.
-    pub fn expect(&self, wanted: usize) -> Result<(), Refusal>
+    pub(crate) fn expect(&self, wanted: usize) -> Result<(), Refusal>
         requires { ⌜ wanted < 100 ⌝ }
         ensures { λ r. ⌜ r ≡ expected wanted (left (now (self .entry))) ⌝ }
     {
@@ -66,7 +65,7 @@ impl<'a> Fields<'a> {
     }
 
     // The next field's number, from `low` to `high`; `at` is the field's own number.
-    pub fn number(&mut self, at: u8, low: i32, high: i32) -> Result<i32, Refusal>
+    pub(crate) fn number(&mut self, at: u8, low: i32, high: i32) -> Result<i32, Refusal>
         ensures value { λ r. ⌜ r ≡ number-at at low high (first (left (now (self .entry)))) ⌝ }
         ensures after { λ _. ⌜ left (now (self .exit)) ≡ others (left (now (self .entry))) ⌝ }
         ensures within { λ r. ⌜ made r (λ z. (low ≤ℤ z) × (z ≤ℤ high)) ⌝ }
@@ -77,7 +76,7 @@ impl<'a> Fields<'a> {
         }
     }
 
-    pub fn id(&mut self, at: u8) -> Result<u8, Refusal>
+    pub(crate) fn id(&mut self, at: u8) -> Result<u8, Refusal>
         ensures value { λ r. ⌜ r ≡ id-at at (first (left (now (self .entry)))) ⌝ }
         ensures after { λ _. ⌜ left (now (self .exit)) ≡ others (left (now (self .entry))) ⌝ }
     {
@@ -85,7 +84,7 @@ impl<'a> Fields<'a> {
         Ok(number as u8)
     }
 
-    pub fn label(&mut self, at: u8) -> Result<u16, Refusal>
+    pub(crate) fn label(&mut self, at: u8) -> Result<u16, Refusal>
         ensures value { λ r. ⌜ r ≡ label-at at (first (left (now (self .entry)))) ⌝ }
         ensures after { λ _. ⌜ left (now (self .exit)) ≡ others (left (now (self .entry))) ⌝ }
     {

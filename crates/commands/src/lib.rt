@@ -1,5 +1,9 @@
 // What a line of a chart file asks for, or why it is refused.
-pub mod refusal;
-pub mod kind;
-pub mod command;
+mod command;
 mod fields;
+mod kind;
+mod refusal;
+
+pub use command::Command;
+pub use kind::Kind;
+pub use refusal::Refusal;

@@ -35,9 +35,9 @@ table-set : (t : List Bool) (j : ℕ) (v : Bool) (s s′ : Ids) → length t ≡
 table-set t j v s s′ len h turned k l =
     ⊎-elim
     (λ (e : k ≡ j).
-        let at : getD (set t j v) j false ≡ v = getD-set-same t j v false (omega arith) in
-        let there = turned .here in
-        rw e (at ∙ sym there))
+    let at : getD (set t j v) j false ≡ v = getD-set-same t j v false (omega arith) in
+    let there = turned .here in
+    rw e (at ∙ sym there))
     (λ (e : k ≡ j → ⊥). getD-set-other t j k v false e ∙ h k l ∙ sym (turned .else k e))
     (cases-eq k j)
 
@@ -71,7 +71,7 @@ module _ (b n : ℕ) (xs : List ℕ) (t : List Bool) (len : length t ≡ 256) (k
         bounded = low;
         fewer = few;
         once = subst (λ s. sound (s .bound) (s .stack) ≡ true) after (sound-taken (ids-of b n xs) (kept .once));
-        table = table-set t j true (ids-of b n xs) (ids-of b′ n′ xs) len (kept .table) (subst (λ s. Turned (ids-of b n xs) s j true) after (subst (λ i. Turned (ids-of b n xs) (taken (ids-of b n xs)) i true) is (turned-taken (ids-of b n xs) (kept .once))))
+        table = table-set t j true (ids-of b n xs) (ids-of b′ n′ xs) len (kept .table) (subst (λ s. Turned (ids-of b n xs) s j true) after (subst (λ i. Turned (ids-of b n xs) (taken (ids-of b n xs)) i true) is (turned-taken (ids-of b n xs) (kept .once))));
       }
 
   pub kept-new : n ≡ 0 → b < 255 → Kept (b + 1) n xs (set t b true)
@@ -94,7 +94,7 @@ module _ (b n : ℕ) (xs : List ℕ) (t : List Bool) (len : length t ≡ 256) (k
         bounded = omega arith;
         fewer = omega arith;
         once = once′;
-        table = table-set t k false (ids-of b n xs) (ids-of b′ n′ xs′) len (kept .table) (subst (λ s. Turned (ids-of b n xs) s k false) after (turned-vacated (ids-of b n xs) k))
+        table = table-set t k false (ids-of b n xs) (ids-of b′ n′ xs′) len (kept .table) (subst (λ s. Turned (ids-of b n xs) s k false) after (turned-vacated (ids-of b n xs) k));
       }
 
   pub kept-lower : (k : ℕ) → live (ids-of b n xs) k ≡ true → k + 1 ≡ b → Kept k n xs (set t k false)
@@ -114,20 +114,3 @@ module _ (b n : ℕ) (xs : List ℕ) (t : List Bool) (len : length t ≡ 256) (k
       let free = room k l in
       let within : n < length xs = omega arith in
       kept-vacated k b (n + 1) (set xs n k) l (omega arith) (vacated-push b n xs k e within)
-
-below : (b n : ℕ) (xs : List ℕ) (t ys : List Bool) → Table t (ids-of b n xs) → length ys ≡ b → ((k : ℕ) → k < b → getD ys k false ≡ false) → Table (ys ++ drop b t) (ids-of 0 0 xs)
-below b n xs t ys table len clear k l =
-    let none = live-none k [] in
-    ⊎-elim
-    (λ (low : k < b).
-        let in-part : k < length ys = omega arith in
-        getD-append-left ys (drop b t) false k in-part ∙ clear k low ∙ sym none)
-    (λ (high : b ≤ k).
-        let back : b + (k - b) ≡ k = omega arith in
-        let dead : live (ids-of b n xs) k ≡ false = and-left _ _ (le-ltb k b high) in
-        getD-append-right ys (drop b t) b k false len high ∙ getD-drop b t (k - b) false ∙ ap (λ i. getD t i false) back ∙ table k l ∙ dead ∙ sym none)
-    (cases-lt k b)
-
--- clearing the part of the table below the bound clears all of it
-pub cleared : (b n m : ℕ) (xs : List ℕ) (t ys : List Bool) → m ≡ b → Table t (ids-of b n xs) → length ys ≡ b → ((k : ℕ) → k < b → getD ys k false ≡ false) → Table (ys ++ drop m t) (ids-of 0 0 xs)
-cleared b n m xs t ys same table len clear = rw same (below b n xs t ys table len clear)

@@ -12,7 +12,7 @@ use Rattle.std.proofs.shelf.Tests.{cases-eq, eq-eqb, ne-eqb}
 use Rattle.std.proofs.shelf.Ways.{tells}
 use Rattle.ids.specs.Ids.{Ids, none, live, count, sound}
 use Rattle.ids.specs.Calls.{next, taken, vacated, added, removed, refused, accepted}
-use Rattle.ids.specs.Series.{History, Deed, Series, start, add, remove, clear, handed, vacated as vacated-deed, emptied, with-added, with-removed, lives, counted, peak, handed-out, Hands-out-below-peak}
+use Rattle.ids.specs.Series.{History, Deed, Series, start, add, remove, clear, handed, vacated as vacated-deed, emptied, with-added, with-removed, lives, counted, peak, handed-out, Keeps, Series-keep}
 use Rattle.ids.proofs.Stack.{counted-same, counted-live, sound-parts, live-none}
 use Rattle.ids.proofs.Live.{Turned, turned-taken, turned-vacated, sound-taken, sound-vacated, live-parts}
 use Rattle.ids.proofs.Adding.{added-cases, removed-cases}
@@ -60,9 +60,9 @@ more-below h j m below low others grown k =
     ⊎-elim
     (λ (e : k ≡ j). let b = eq-eqb k j e in rw b (λ _. omega arith, λ _. refl))
     (λ (e : k ≡ j → ⊥).
-        let b = ne-eqb k j e in
-        let p = below k in
-        rw b (λ t. let l = p .0 t in omega arith, λ l. p .1 (others k e l)))
+    let b = ne-eqb k j e in
+    let p = below k in
+    rw b (λ t. let l = p .0 t in omega arith, λ l. p .1 (others k e l)))
     (cases-eq k j)
 
 holds-new : (b : ℕ) (h : History) → (count (record { bound = b; stack = [] }) ≡ 255 → ⊥) → Holds (record { bound = b; stack = [] }) h → Holds (record { bound = b + 1; stack = [] }) (handed b ∷ h)
@@ -149,5 +149,8 @@ holds (remove {s} {h} before ps k) =
     (removed-cases s ps k)
 holds (clear {s} {h} before) = holds-emptied s h (holds before)
 
-pub hands-out-below-peak : {N : Type 0} → Hands-out-below-peak N
-hands-out-below-peak s h series = holds series .below
+pub series-keep : {N : Type 0} → Series-keep N
+series-keep s h series =
+    let kept = holds series in
+    let all = counted-lives s h (kept .once) (kept .bounded) (kept .same) in
+    record { live-same = kept .same; counts = omega arith; hands-out = kept .below }

@@ -53,14 +53,14 @@ counted-more p q zero j l f t same = absurd (omega arith)
 counted-more p q (suc n) j l f t same =
     ⊎-elim
     (λ (e : j ≡ n).
-        let below = counted-same q p n (λ k h. same k (omega arith)) in
-        let pn : p n ≡ false = rw e at f in
-        let qn : q n ≡ true = rw e at t in
-        rw (pn, qn, below) (omega arith))
+    let below = counted-same q p n (λ k h. same k (omega arith)) in
+    let pn : p n ≡ false = rw e at f in
+    let qn : q n ≡ true = rw e at t in
+    rw (pn, qn, below) (omega arith))
     (λ (e : j ≡ n → ⊥).
-        let below = counted-more p q n j (omega arith) f t same in
-        let here = same n (λ x. e (sym x)) in
-        rw (here, below) (omega arith))
+    let below = counted-more p q n j (omega arith) f t same in
+    let here = same n (λ x. e (sym x)) in
+    rw (here, below) (omega arith))
     (cases-eq j n)
 
 pub counted-below : (b n : ℕ) → b ≤ n → counted (λ k. ltb k b && true) n ≡ b
@@ -69,14 +69,14 @@ counted-below b zero h = omega arith
 counted-below b (suc n) h =
     ⊎-elim
     (λ (e : b ≡ suc n).
-        let below : counted (λ k. ltb k b && true) n ≡ counted (λ k. ltb k n && true) n = counted-same _ _ n (λ k l. grind (arith, tells)) in
-        let rest = counted-below n n (omega arith) in
-        let here : ltb n b ≡ true = lt-ltb n b (omega arith) in
-        rw (here, below, rest) (omega arith))
+    let below : counted (λ k. ltb k b && true) n ≡ counted (λ k. ltb k n && true) n = counted-same _ _ n (λ k l. grind (arith, tells)) in
+    let rest = counted-below n n (omega arith) in
+    let here : ltb n b ≡ true = lt-ltb n b (omega arith) in
+    rw (here, below, rest) (omega arith))
     (λ (e : b ≡ suc n → ⊥).
-        let rest = counted-below b n (omega arith) in
-        let here : ltb n b ≡ false = le-ltb n b (omega arith) in
-        rw (here, rest) (omega arith))
+    let rest = counted-below b n (omega arith) in
+    let here : ltb n b ≡ false = le-ltb n b (omega arith) in
+    rw (here, rest) (omega arith))
     (cases-eq b (suc n))
 
 -- a sound stack

@@ -63,13 +63,21 @@ refused e s ps = record { answer = Err e; ids = s; places = ps }
 abbrev pub accepted : {A N : Type 0} → A → Ids → List N → Outcome A N
 accepted x s ps = record { answer = Ok x; ids = s; places = ps }
 
+-- whether a node can be added, or why not
+abbrev pub room : {N : Type 0} → Ids → List N → Result (Unit {0}) MatrixError
+room s ps =
+    cond (short s ps) (Err ShortMemory)
+    (cond (eqb (count s) 255) (Err NodeIxLimit)
+    (cond (crowded s ps) (Err (NoSpace (s .bound + 1)))
+    (Ok tt)))
+
+abbrev pub added-by : {N : Type 0} → Result (Unit {0}) MatrixError → Ids → List N → N → Outcome ℕ N
+added-by (Err e) s ps w = refused e s ps
+added-by (Ok _) s ps w = accepted (next s) (taken s) (set ps (next s) w)
+
 -- adding a node of weight w
 abbrev pub added : {N : Type 0} → Ids → List N → N → Outcome ℕ N
-added s ps w =
-    cond (short s ps) (refused ShortMemory s ps)
-    (cond (eqb (count s) 255) (refused NodeIxLimit s ps)
-    (cond (crowded s ps) (refused (NoSpace (s .bound + 1)) s ps)
-    (accepted (next s) (taken s) (set ps (next s) w))))
+added s ps w = added-by (room s ps) s ps w
 
 abbrev pub removed-of : {N : Type 0} → Option N → Ids → List N → ℕ → Outcome N N
 removed-of None s ps k = refused (NodeMissed k) s ps

@@ -1,4 +1,5 @@
 -- Every series of calls on ids, and what it hands out. Assumes nothing.
+use mathlib.Core.Path.{_≡_}
 use mathlib.Core.Bool.{Bool, true, false, cond}
 use mathlib.Core.List.{List, [], _∷_}
 use Prim.Native.Nat.{ℕ, zero, suc, max, _+_, _<_}
@@ -7,7 +8,7 @@ use Rattle.std.specs.Orderings.{Decides}
 use Rattle.std.specs.declared.result.Result.{Result}
 use Rattle.std.specs.declared.result.Result.the-variants.{Ok, Err}
 use Rattle.errors.specs.declared.MatrixError.{MatrixError}
-use Rattle.ids.specs.Ids.{Ids, none}
+use Rattle.ids.specs.Ids.{Ids, none, live, count}
 use Rattle.ids.specs.Calls.{Outcome, added, removed}
 
 -- what an accepted call did to the ids
@@ -59,6 +60,14 @@ handed-out (handed j ∷ h) k = cond (eqb k j) true (handed-out h k)
 handed-out (vacated j ∷ h) k = handed-out h k
 handed-out (emptied ∷ h) k = handed-out h k
 
--- after every series the ids ever handed out are the numbers below the largest count live at one time, and no others
-abbrev pub Hands-out-below-peak : Type 0 → Type 0
-Hands-out-below-peak N = (s : Ids) (h : History) → Series N s h → (k : ℕ) → Decides (handed-out h k) (k < peak h)
+-- what every series keeps
+pub record Keeps (s : Ids) (h : History) : Type 0 where
+  -- live by the history is live by the record
+  pub live-same : (k : ℕ) → lives h k ≡ live s k
+  -- the count is the number of ids that are live
+  pub counts : count s ≡ counted (lives h) 256
+  -- the ids ever handed out are the numbers below the largest count live at one time, and no others
+  pub hands-out : (k : ℕ) → Decides (handed-out h k) (k < peak h)
+
+abbrev pub Series-keep : Type 0 → Type 0
+Series-keep N = (s : Ids) (h : History) → Series N s h → Keeps s h

@@ -1,2 +1,4 @@
 // The ids of a graph: which are live, which are vacated, which one is handed out next.
-pub mod record;
+mod record;
+
+pub use record::IdStorage;

@@ -4,7 +4,8 @@ ghost use Prim.Native.Nat.{ℕ, _≤_, _<_};
 ghost use lib.ListN.{getD};
 ghost use Rattle.ids.specs.Ids.{ids-of, sound, live, stacked};
 
-mod calls;
+mod changes;
+mod reads;
 
 // All of its memory is fixed: no call allocates.
 #[derive(Clone, Copy)]

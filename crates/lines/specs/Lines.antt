@@ -1,9 +1,8 @@
 -- The lines of an input, and the machine that finds them byte by byte. Assumes nothing.
 use mathlib.Core.Path.{_≡_}
 use mathlib.Core.Bool.{cond, false}
-use mathlib.Core.Logic.{_⊎_}
 use mathlib.Core.List.{List, [], _∷_, _++_, map}
-use Prim.Native.Nat.{ℕ, _<_}
+use Prim.Native.Nat.{ℕ, _≤_}
 use lib.Dec.{eqb, ltb, leb}
 use lib.ListN.{length}
 use Rattle.std.specs.Joined.{joined}
@@ -16,15 +15,17 @@ pub data Ending : Type 0 where
   whole : List ℕ → Ending
   long : Ending
 
--- the input cut at each byte 10; what follows the last of them is a piece too, unless it is empty
+-- the byte b put before the first piece
 abbrev pub longer : ℕ → List (List ℕ) → List (List ℕ)
 longer b [] = (b ∷ []) ∷ []
 longer b (p ∷ ps) = (b ∷ p) ∷ ps
 
+-- an input cut at each byte 10; what follows the last of them is a piece too, unless it is empty
 abbrev pub pieces : List ℕ → List (List ℕ)
 pieces [] = []
 pieces (b ∷ bs) = cond (eqb b 10) ([] ∷ pieces bs) (longer b (pieces bs))
 
+-- a piece as a line
 abbrev pub ending : List ℕ → Ending
 ending p = cond (leb (length p) 40) (whole p) long
 
@@ -32,14 +33,26 @@ ending p = cond (leb (length p) 40) (whole p) long
 abbrev pub lines : List ℕ → List Ending
 lines bs = map ending (pieces bs)
 
+-- no byte 10 is among these
+abbrev pub Plain : List ℕ → Type 0
+Plain p = Every (λ b. eqb b 10 ≡ false) p
+
 -- a piece with the byte 10 that ends it
 abbrev pub ended-piece : List ℕ → List ℕ
 ended-piece p = p ++ 10 ∷ []
 
--- ps are the pieces of bs: none holds a byte 10, each is ended by one, and a last one that is not need not be empty
+abbrev pub unless-empty : List ℕ → List (List ℕ)
+unless-empty [] = []
+unless-empty (b ∷ bs) = (b ∷ bs) ∷ []
+
+-- ps are the pieces of bs: those that a byte 10 ends, and what follows them, unless that is empty; none has a byte 10 in it
 pub record Cut (bs : List ℕ) (ps : List (List ℕ)) : Type 0 where
-  pub plain : Every (Every (λ b. eqb b 10 ≡ false)) ps
-  pub whole : (bs ≡ joined ended-piece ps) ⊎ ((qs : List (List ℕ)) × (last : List ℕ) × (ps ≡ qs ++ last ∷ []) × (0 < length last) × (bs ≡ joined ended-piece qs ++ last))
+  pub before : List (List ℕ)
+  pub rest : List ℕ
+  pub made : bs ≡ joined ended-piece before ++ rest
+  pub are : ps ≡ before ++ unless-empty rest
+  pub plain-before : Every Plain before
+  pub plain-rest : Plain rest
 
 -- the machine: it fills a line, skips the rest of one that is too long, or has just ended one
 pub data Reading : Type 0 where
@@ -47,13 +60,14 @@ pub data Reading : Type 0 where
   skipping : Reading
   ended : Ending → Reading
 
+-- the byte b after the bytes bs of a line
 abbrev pub filled : List ℕ → ℕ → Reading
-filled bs b = cond (ltb (length bs) 40) (filling (bs ++ b ∷ [])) skipping
+filled bs b = cond (eqb b 10) (ended (whole bs)) (cond (ltb (length bs) 40) (filling (bs ++ b ∷ [])) skipping)
 
 abbrev pub stepped : Reading → ℕ → Reading
-stepped (filling bs) b = cond (eqb b 10) (ended (whole bs)) (filled bs b)
+stepped (filling bs) b = filled bs b
 stepped skipping b = cond (eqb b 10) (ended long) skipping
-stepped (ended e) b = cond (eqb b 10) (ended (whole [])) (filled [] b)
+stepped (ended e) b = filled [] b
 
 -- the line that a state has just ended
 abbrev pub completed : Reading → Option Ending
@@ -67,6 +81,12 @@ finished (filling []) = None
 finished (filling (b ∷ bs)) = Some (whole (b ∷ bs))
 finished skipping = Some long
 finished (ended e) = None
+
+-- a whole line has at most 40 bytes
+abbrev pub Short : Option Ending → Type 0
+Short None = Unit {0}
+Short (Some (whole bs)) = length bs ≤ 40
+Short (Some long) = Unit {0}
 
 abbrev pub with-line : Option Ending → List Ending → List Ending
 with-line None es = es

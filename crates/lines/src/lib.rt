@@ -1,3 +1,9 @@
 // Lines of an input, byte by byte.
-pub mod line;
-pub mod reader;
+mod line;
+mod reader;
+#[cfg(test)]
+mod tests;
+
+pub use line::LINE_MAX;
+pub use reader::End;
+pub use reader::LineReader;

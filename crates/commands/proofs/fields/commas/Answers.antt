@@ -15,8 +15,8 @@ loop-b-again c =
     let i = c .loop-b .b-index in
     let step = at-drop-more (λ xs. length (fields xs)) bs i 0 (c .loop-b-test .taken) in
     elim (c .if-b-eq44 .came) [
-      then-b-eq44 w ↦ let more = length-comma (getD bs i 0) (drop (i + 1) bs) (w .if-b-eq44 .taken) in (omega (arith, w .commas-is, c .loop-b .inv .0), omega (arith, w .commas-is, c .loop-b .inv .1))
-    | else-b-eq44 w ↦ let same = length-plain (getD bs i 0) (drop (i + 1) bs) (w .if-b-eq44 .left) in (omega (arith, w .commas-is, c .loop-b .inv .0), omega (arith, w .commas-is, c .loop-b .inv .1))
+      | then-b-eq44 w ↦ let more = length-comma (getD bs i 0) (drop (i + 1) bs) (w .if-b-eq44 .taken) in (omega (arith, w .commas-is, c .loop-b .inv .0), omega (arith, w .commas-is, c .loop-b .inv .1))
+      | else-b-eq44 w ↦ let same = length-plain (getD bs i 0) (drop (i + 1) bs) (w .if-b-eq44 .left) in (omega (arith, w .commas-is, c .loop-b .inv .0), omega (arith, w .commas-is, c .loop-b .inv .1))
     ]
 
 pub returns : need.returns

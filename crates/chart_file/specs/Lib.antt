@@ -1,0 +1,4 @@
+pub mod Text
+pub mod Chart
+pub mod Record
+pub mod Output
