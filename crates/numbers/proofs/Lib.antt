@@ -1,2 +1,2 @@
-pub mod Reading
-pub mod Meaning
+mod Reading
+mod Meaning

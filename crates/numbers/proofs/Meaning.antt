@@ -1,11 +1,10 @@
 -- A field writes the number whose decimal text it is.
 use mathlib.Core.Path.{_≡_, refl, sym, _∙_, ap}
-use mathlib.Core.Bool.{Bool, true, false, not, _&&_}
+use mathlib.Core.Bool.{Bool, true, false}
 use mathlib.Core.Logic.{inl, inr}
 use mathlib.Core.List.{List, [], _∷_}
 use Prim.Native.Nat.{ℕ, zero, suc, _<_, _^_}
 use native.Mathlib.Omega.{arith}
-use lib.Dec.{eqb}
 use lib.IntN.{ℤ, pos, negsuc, negℤ}
 use lib.ListN.{length, getD}
 use lib.Signed.{_≤ℤ_}
@@ -21,7 +20,7 @@ use Rattle.std.proofs.shelf.Numerals.{Numerals, numerals-by-value, tells-allDig
 use Rattle.std.proofs.shelf.Signed.{ints}
 use Rattle.std.proofs.shelf.Tests.{cases-eq}
 use Rattle.std.proofs.shelf.Ways.{tells}
-use Rattle.numbers.specs.Fields.{Means, when, canonical, numeral, limited, number-field, bounded}
+use Rattle.numbers.specs.Fields.{Means, when, canonical, nonzero, numeral, limited, number-field, bounded}
 
 decimals : Numerals (λ ds. allDigits ds ≡ true) (value 10)
 decimals = numerals-by-value _ tells-allDigits
@@ -42,9 +41,7 @@ canonical-is ds n small test e =
     let lone : getD ds 0 0 ≡ 48 → length ds ≡ 1 = grind (arith, tells) in
     sym (rw e at (decimal-value decimals ds digits some lone (omega arith)))
 
-negative-is :
-    (ds : List ℕ) (n : ℕ) → n < 2 ^ 64 → (canonical ds && not (eqb (getD ds 0 0) 48)) ≡ true → value 10 ds ≡ n
-    → 45 ∷ ds ≡ signed (negℤ (pos n))
+negative-is : (ds : List ℕ) (n : ℕ) → n < 2 ^ 64 → nonzero ds ≡ true → value 10 ds ≡ n → 45 ∷ ds ≡ signed (negℤ (pos n))
 negative-is ds zero small test e =
     let text = canonical-is ds 0 small (grind (arith, tells)) e ∙ decimal-digit 0 (omega arith) in
     let first : getD ds 0 0 ≡ 48 = ap (λ xs. getD xs 0 0) text in
@@ -66,7 +63,7 @@ module _ {low high : ℤ} (low-fits : SFits w32 low) (high-fits : SFits w32 high
   numeral-is (b ∷ bs) z l h is =
       elim (cases-eq b 45) [
         | inl minus ↦
-            let (test, e) = when-some (canonical bs && not (eqb (getD bs 0 0) 48)) (negℤ (pos (value 10 bs))) z (grind (arith, tells)) in
+            let (test, e) = when-some (nonzero bs) (negℤ (pos (value 10 bs))) z (grind (arith, tells)) in
             rw (minus, ← e) (negative-is bs (value 10 bs) (omega (arith, ints)) test refl)
         | inr plain ↦
             let (test, e) = when-some (canonical (b ∷ bs)) (pos (value 10 (b ∷ bs))) z (grind (arith, tells)) in

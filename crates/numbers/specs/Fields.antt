@@ -20,9 +20,12 @@ when test x = cond test (Some x) None
 abbrev pub canonical : List ℕ → Bool
 canonical ds = allDigits ds && (ltb 0 (length ds) && (eqb (length ds) 1 || not (eqb (getD ds 0 0) 48)))
 
--- the number that digits write after a minus, which zero does not take
+abbrev pub nonzero : List ℕ → Bool
+nonzero ds = canonical ds && not (eqb (getD ds 0 0) 48)
+
+-- the number that digits write after a minus, which zero does not have
 abbrev pub negative : List ℕ → Option ℤ
-negative ds = when (canonical ds && not (eqb (getD ds 0 0) 48)) (negℤ (pos (value 10 ds)))
+negative ds = when (nonzero ds) (negℤ (pos (value 10 ds)))
 
 -- the number that a field writes, if it writes one: 45 is the minus
 abbrev pub numeral : List ℕ → Option ℤ

@@ -5,7 +5,7 @@ ghost use mathlib.Core.Path.{_≡_};
 ghost use Rattle.numbers.specs.Fields.{Means, bounded, limited, negative, number-field, numeral, reading, size};
 ghost use Rattle.std.specs.declared.option.Option.the-variants.{Some};
 
-// The size of `i32::MIN`: no number with a larger one can lie within the limits of a field.
+// The size of `i32::MIN`. A larger one lies past any limit, and is refused while it is read.
 const LARGEST: u64 = 1 << 31;
 
 // The number that a field writes, if it lies from `low` to `high`.
@@ -36,7 +36,7 @@ fn read_signed(field: &[u8]) -> Option<i64>
     }
 }
 
-// What stands after a minus: a zero has none.
+// The number that digits write after a minus, which zero does not have.
 fn read_negative(digits: &[u8]) -> Option<i64>
     ensures { λ r. ⌜ r ≡ bounded (negative (now (digits .entry))) ⌝ }
 {
@@ -46,6 +46,7 @@ fn read_negative(digits: &[u8]) -> Option<i64>
     }
 }
 
+// Of all numbers only zero begins with a zero.
 fn read_unsigned(digits: &[u8]) -> Option<u64>
     ensures { λ r. ⌜ r ≡ size (now (digits .entry)) ⌝ }
 {
@@ -66,7 +67,7 @@ fn read_digits(digits: &[u8]) -> Option<u64>
     Some(number)
 }
 
-// The number that is written with one more digit.
+// The number with one more digit, if it is still at most `LARGEST`.
 fn append(number: u64, byte: u8) -> Option<u64>
     requires { ⌜ number ≤ 2 ^ 31 ⌝ }
     ensures { λ r. ⌜ r ≡ reading number (byte ∷ []) ⌝ }
@@ -87,24 +88,37 @@ mod tests {
     use std::test::*;
 
     #[test]
-    fn reads_up_to_the_limits() -> Result<(), Fail> {
+    fn reads_canonical_numbers_within_the_limits() -> Result<(), Fail> {
         for (field, low, high, number) in [
-            ("0", 0, 255, Some(0)),
-            ("255", 0, 255, Some(255)),
-            ("256", 0, 255, None),
-            ("-1", 0, 255, None),
-            ("65535", 0, 65535, Some(65535)),
-            ("65536", 0, 65535, None),
-            ("655350", 0, 65535, None),
-            ("2147483647", i32::MIN, i32::MAX, Some(i32::MAX)),
-            ("2147483648", i32::MIN, i32::MAX, None),
-            ("-2147483648", i32::MIN, i32::MAX, Some(i32::MIN)),
-            ("-2147483649", i32::MIN, i32::MAX, None),
-            ("-21474836480", i32::MIN, i32::MAX, None),
-            ("18446744073709551617", i32::MIN, i32::MAX, None),
-            ("5", 7, 3, None),
+            (&b"0"[..], 0, 255, Some(0)),
+            (b"255", 0, 255, Some(255)),
+            (b"256", 0, 255, None),
+            (b"-1", 0, 255, None),
+            (b"65535", 0, 65535, Some(65535)),
+            (b"65536", 0, 65535, None),
+            (b"655350", 0, 65535, None),
+            (b"2147483647", i32::MIN, i32::MAX, Some(i32::MAX)),
+            (b"2147483648", i32::MIN, i32::MAX, None),
+            (b"-2147483648", i32::MIN, i32::MAX, Some(i32::MIN)),
+            (b"-2147483649", i32::MIN, i32::MAX, None),
+            (b"5", 7, 3, None),
         ] {
-            check_eq(read_number(field.as_bytes(), low, high), number)?;
+            check_eq(read_number(field, low, high), number)?;
+        }
+        for field in [
+            &b""[..],
+            b"-",
+            b"-0",
+            b"00",
+            b"007",
+            b"-01",
+            b"+1",
+            b"1 ",
+            b"1\0",
+            b"\xff",
+            b"18446744073709551617",
+        ] {
+            check_eq(read_number(field, i32::MIN, i32::MAX), None)?;
         }
         Ok(())
     }
