@@ -16,9 +16,10 @@ use Rattle.commands.specs.declared.kind.Kind.{Kind}
 use Rattle.sink.specs.declared.Sink.{Sink}
 use Rattle.sink.specs.Output.{Wrote}
 use Rattle.sink.proofs.Writes.{wrote-none, wrote-append}
-use Rattle.chart_file.specs.Chart.{State, listing}
-use Rattle.chart_file.specs.Record.{Rest-within}
-use Rattle.chart_file.specs.Output.{kind-of, opened, opened-by, replies, next-text, next-line, next-state}
+use Rattle.chart_file.specs.Chart.{State, answered, listing}
+use Rattle.chart_file.specs.Text.{reply}
+use Rattle.chart_file.specs.Output.{answers, after, numbered, kind-of, opened, opened-by, replies}
+use Rattle.chart_file.specs.Turns.{Rest-within, next-text, next-line, next-state}
 
 -- once a line has ended, the machine gives the lines of what follows
 pub given-ended : (r : Reading) (e : Ending) (bs : List ℕ) → completed r ≡ Some e → given r bs ≡ lines bs
@@ -45,7 +46,7 @@ opened-none r input all done = let only : with-line (finished r) [] ≡ [] = rw 
 -- one line more, if one has ended
 pub replies-next : (n : ℕ) (o : Option Ending) (es : List Ending) (s : State) → replies n (with-line o es) s ≡ next-text n o s ++ replies (next-line n o) es (next-state o s)
 replies-next n None es s = refl
-replies-next n (Some e) es s = refl
+replies-next n (Some e) es s = append-assoc (reply n (answered e s .answer)) (numbered (n + 1) (answers es (answered e s .state))) (listing (after es (answered e s .state)))
 
 pub counting-more : (n : ℕ) → counting 0 (n + 1) ≡ counting 0 n ++ n ∷ []
 counting-more n =
@@ -64,9 +65,9 @@ pub record Answering (s t : Sink) (all : List ℕ) (n : ℕ) (r : Reading) (bs :
   pub short : length done ≤ 64 * i
   pub low : n ≤ i + 2
 
-pub answering-none : (s : Sink) (r : Reading) (input : List ℕ) (chart : State) → length (now (s .out)) < 2 ^ 64 → given r input ≡ lines input → Answering s s (replies 2 (lines input) chart) 2 r input chart 0
-answering-none s r input chart room gives =
-    record { done = []; wrote = wrote-none s room; parts = ap (λ es. replies 2 es chart) gives; short = omega arith; low = omega arith }
+pub answering-none : (s : Sink) (r : Reading) (input : List ℕ) (chart first : State) → length (now (s .out)) < 2 ^ 64 → given r input ≡ lines input → chart ≡ first → Answering s s (replies 2 (lines input) first) 2 r input chart 0
+answering-none s r input chart first room gives same =
+    record { done = []; wrote = wrote-none s room; parts = ap (λ es. replies 2 es chart) gives ∙ ap (replies 2 (lines input)) same; short = omega arith; low = omega arith }
 
 low-next : (n : ℕ) (o : Option Ending) → next-line n o ≤ n + 1
 low-next n None = omega arith

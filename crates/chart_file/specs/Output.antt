@@ -6,32 +6,35 @@ use lib.Dec.{leb}
 use lib.ListN.{length}
 use Rattle.std.specs.declared.option.Option.{Option}
 use Rattle.std.specs.declared.option.Option.the-variants.{Some, None}
+use Rattle.std.specs.declared.result.Result.{Result}
 use Rattle.std.specs.declared.result.Result.the-variants.{Err}
 use Rattle.commands.specs.Commands.{kind}
 use Rattle.commands.specs.declared.kind.Kind.{Kind}
+use Rattle.commands.specs.declared.refusal.Refusal.{Refusal}
 use Rattle.commands.specs.declared.refusal.Refusal.the-variants.{BadKind}
 use Rattle.lines.specs.Lines.{Ending, whole, long, lines}
 use Rattle.sink.specs.Output.{laid}
+use Rattle.chart_file.specs.declared.answer.Answer.{Answer}
 use Rattle.chart_file.specs.Chart.{State, fresh, answered, listing}
 use Rattle.chart_file.specs.Text.{reply}
 
--- one answer for each line, numbered from n on, and then the listing
+-- the answers to lines, one for each, and the chart after them
+abbrev pub answers : List Ending → State → List (Result Answer Refusal)
+answers [] s = []
+answers (e ∷ es) s = answered e s .answer ∷ answers es (answered e s .state)
+
+abbrev pub after : List Ending → State → State
+after [] s = s
+after (e ∷ es) s = after es (answered e s .state)
+
+-- answers as they are printed, to lines numbered from n on
+abbrev pub numbered : ℕ → List (Result Answer Refusal) → List ℕ
+numbered n [] = []
+numbered n (a ∷ rest) = reply n a ++ numbered (n + 1) rest
+
+-- the answers to lines numbered from n on, and then the listing
 abbrev pub replies : ℕ → List Ending → State → List ℕ
-replies n [] s = listing s
-replies n (e ∷ es) s = reply n (answered e s .answer) ++ replies (n + 1) es (answered e s .state)
-
--- the same where a line may have ended or not: what is printed, the number of the next line and the chart
-abbrev pub next-text : ℕ → Option Ending → State → List ℕ
-next-text n None s = []
-next-text n (Some e) s = reply n (answered e s .answer)
-
-abbrev pub next-line : ℕ → Option Ending → ℕ
-next-line n None = n
-next-line n (Some e) = n + 1
-
-abbrev pub next-state : Option Ending → State → State
-next-state None s = s
-next-state (Some e) s = answered e s .state
+replies n es s = numbered n (answers es s) ++ listing (after es s)
 
 -- the kind that the first line names, and the lines after it
 abbrev pub kind-of : Ending → Option Kind

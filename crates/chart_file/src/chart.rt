@@ -9,6 +9,7 @@ use crate::answer::Answer;
 use crate::text::print;
 use commands::Command;
 use commands::Refusal;
+use commands::RefusalFromGraph;
 use ids::IdStorage;
 use sink::Sink;
 
@@ -33,14 +34,14 @@ impl Chart {
         ensures { λ r. ⌜ record { answer = r; state = state (now (self .exit)) } ≡ applied command (state (now (self .entry))) ⌝ }
     {
         match command {
-            Command::AddNode(label) => match self.ids.add(&mut self.labels, label) {
-                Ok(id) => Ok(Answer::Id(id)),
-                Err(error) => Err(Refusal::Graph(error)),
-            },
-            Command::RemoveNode(id) => match self.ids.remove(&self.labels, id) {
-                Ok(label) => Ok(Answer::Was(label)),
-                Err(error) => Err(Refusal::Graph(error)),
-            },
+            Command::AddNode(label) => {
+                let id = self.ids.add(&mut self.labels, label)?;
+                Ok(Answer::Id(id))
+            }
+            Command::RemoveNode(id) => {
+                let label = self.ids.remove(&self.labels, id)?;
+                Ok(Answer::Was(label))
+            }
             Command::Clear => {
                 self.ids.clear();
                 Ok(Answer::Done)

@@ -5,8 +5,10 @@ ghost use Rattle.lines.specs.Lines.{lines};
 ghost use Rattle.lines.specs.Readers.{lent};
 ghost use Rattle.sink.specs.Output.{Wrote};
 ghost use Rattle.chart_file.specs.Chart.{answered, fresh};
-ghost use Rattle.chart_file.specs.Output.{answer, kind-of, left-in, next-line, next-state, next-text, opened, opened-by, replies};
-ghost use Rattle.chart_file.specs.Record.{Rest-within, ending, kind-and-lines, state};
+ghost use Rattle.chart_file.specs.Laws.{File-laws};
+ghost use Rattle.chart_file.specs.Output.{answer, kind-of, left-in, opened, opened-by, replies};
+ghost use Rattle.chart_file.specs.Record.{state};
+ghost use Rattle.chart_file.specs.Turns.{Rest-within, ending, kind-and-lines, next-line, next-state, next-text};
 use crate::answer::Answer;
 use crate::chart::Chart;
 use crate::text::print_reply;
@@ -22,6 +24,14 @@ pub const INPUT_MAX: usize = 65536;
 
 // Writes the output for a whole chart file as far as `out` reaches, and answers its full length; none for an input that is too long.
 pub fn run(input: &[u8], out: &mut [u8]) -> Option<usize>
+    ensures answer { λ r. ⌜ r ≡ answer (now (input .entry)) ⌝ }
+    ensures buffer { λ _. ⌜ now (out .exit) ≡ left-in (now (out .entry)) (now (input .entry)) ⌝ }
+    ensures laws { λ _. ⌜ File-laws ⌝ }
+{
+    answer_file(input, out)
+}
+
+fn answer_file(input: &[u8], out: &mut [u8]) -> Option<usize>
     ensures answer { λ r. ⌜ r ≡ answer (now (input .entry)) ⌝ }
     ensures buffer { λ _. ⌜ now (out .exit) ≡ left-in (now (out .entry)) (now (input .entry)) ⌝ }
 {
@@ -58,10 +68,8 @@ fn open_by<'a>(line: End<&[u8]>, rest: &'a [u8]) -> Option<(Kind, &'a [u8])>
     ensures value { λ r. ⌜ kind-and-lines r ≡ opened-by (kind-of (ending (line .entry))) (lines (now (rest .entry))) ⌝ }
     ensures rest { λ r. ⌜ Rest-within (length (now (rest .entry))) r ⌝ }
 {
-    match read_kind(line) {
-        Some(kind) => Some((kind, rest)),
-        None => None,
-    }
+    let kind = read_kind(line)?;
+    Some((kind, rest))
 }
 
 fn read_kind(line: End<&[u8]>) -> Option<Kind>
@@ -112,10 +120,7 @@ fn chart_answer(end: End<&[u8]>, chart: &mut Chart) -> Result<Answer, Refusal>
     ensures { λ r. ⌜ record { answer = r; state = state (now (chart .exit)) } ≡ answered (ending (end .entry)) (state (now (chart .entry))) ⌝ }
 {
     match end {
-        End::Whole(bytes) => match Command::read(bytes) {
-            Ok(command) => chart.apply(command),
-            Err(refusal) => Err(refusal),
-        },
+        End::Whole(bytes) => chart.apply(Command::read(bytes)?),
         End::Long => Err(Refusal::LineLong),
     }
 }

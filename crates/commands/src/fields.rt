@@ -70,10 +70,7 @@ impl<'a> Fields<'a> {
         ensures after { λ _. ⌜ left (now (self .exit)) ≡ others (left (now (self .entry))) ⌝ }
         ensures within { λ r. ⌜ made r (λ z. (low ≤ℤ z) × (z ≤ℤ high)) ⌝ }
     {
-        match read_number(self.next(), low, high) {
-            Some(number) => Ok(number),
-            None => Err(Refusal::BadNumber(at)),
-        }
+        read_number(self.next(), low, high).ok_or(Refusal::BadNumber(at))
     }
 
     pub(crate) fn id(&mut self, at: u8) -> Result<u8, Refusal>

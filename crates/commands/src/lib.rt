@@ -7,3 +7,4 @@ mod refusal;
 pub use command::Command;
 pub use kind::Kind;
 pub use refusal::Refusal;
+pub use refusal::RefusalFromGraph;

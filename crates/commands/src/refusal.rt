@@ -1,5 +1,6 @@
 ghost use mathlib.Core.Path.{_≡_};
 ghost use Rattle.commands.specs.Refusals.{field, number};
+ghost use Rattle.commands.specs.declared.refusal.Refusal.the-variants.{Graph};
 use errors::MatrixError;
 
 // Why a line of a chart file is refused.
@@ -45,5 +46,13 @@ impl Refusal {
             Refusal::BadKind => 25,
             Refusal::Graph(error) => error.number(),
         }
+    }
+}
+
+pub impl From<MatrixError> for Refusal as RefusalFromGraph {
+    ghost converts = { λ e r. r ≡ Graph e };
+
+    fn from(refused: MatrixError) -> Refusal {
+        Refusal::Graph(refused)
     }
 }

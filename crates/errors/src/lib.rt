@@ -4,11 +4,11 @@ ghost use Rattle.errors.specs.Refusals.{number};
 
 #[derive(Clone, Copy, Debug, PartialEq, Eq)]
 pub enum MatrixError {
-    // Fewer cells or places were brought than are in use.
+    // Less memory was brought than is in use.
     ShortMemory,
     // The graph is at the largest number of nodes for its index.
     NodeIxLimit,
-    // The call would take this many cells or places into use, and fewer were brought.
+    // The call would take this many places into use, and fewer were brought.
     NoSpace(usize),
     // The node with this id is missing from the graph.
     NodeMissed(u8),

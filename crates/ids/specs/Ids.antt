@@ -10,7 +10,7 @@ pub record Ids : Type 0 where
   pub bound : ℕ
   pub stack : List ℕ
 
--- no id was ever added
+-- no id is live, and none is stacked
 abbrev pub none : Ids
 none = record { bound = 0; stack = [] }
 

@@ -23,10 +23,15 @@ fn nodes_come_and_go() -> Result<(), Fail> {
         b"chart,triangle\nN,0\nN,65535\nR,1\nR,1\nR,255\nC\nN,7\nC\nR,0",
         b"id,0\nid,1\nwas,65535\nno,5,0,4\nno,6,0,4\ndone\nid,0\ndone\nno,10,0,4\nend,0,0\n",
     )?;
-    // The last id that was vacated is used first.
+    // The id that was stacked last is used first.
     prints(
         b"chart,square\nN,1\nN,2\nN,3\nR,0\nR,1\nN,4\nN,5\nN,6\n",
         b"id,0\nid,1\nid,2\nwas,1\nwas,2\nid,1\nid,0\nid,3\nnode,0,5\nnode,1,4\nnode,2,3\nnode,3,6\nend,4,0\n",
+    )?;
+    // The id just below the bound is not stacked: 0 is used before 2.
+    prints(
+        b"chart,square\nN,1\nN,2\nN,3\nR,0\nR,2\nN,4\nN,5\n",
+        b"id,0\nid,1\nid,2\nwas,1\nwas,3\nid,0\nid,2\nnode,0,4\nnode,1,2\nnode,2,5\nend,3,0\n",
     )
 }
 

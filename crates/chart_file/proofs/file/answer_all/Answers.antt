@@ -9,8 +9,8 @@ use Rattle.std.proofs.shelf.Lists.{drop-more, drop-all}
 use Rattle.lines.specs.Lines.{completed}
 use Rattle.lines.specs.Readers.{reading}
 use Rattle.sink.specs.Output.{Wrote}
-use Rattle.chart_file.specs.Chart.{listing}
-use Rattle.chart_file.specs.Output.{next-state}
+use Rattle.chart_file.specs.Chart.{fresh, listing}
+use Rattle.chart_file.specs.Turns.{next-state}
 use Rattle.chart_file.specs.Record.{state}
 use Rattle.chart_file.proofs.Running.{Answering, answering-none, answering-more, answering-all}
 use Rattle.chart_file.proofs.file.answer_all.Needs as need
@@ -18,7 +18,7 @@ use Rattle.chart_file.proofs.file.answer_all.Needs as need
 pub loop-b-holds : need.loop-b-holds
 loop-b-holds c =
     let room : length (now (c .args .sink .now .out)) < 2 ^ 64 = search needs in
-    rw (sym (c .new-chart .ensures)) (answering-none (c .args .sink .now) (reading (c .new-reader .result)) (c .args .input .now) (state (c .new-chart .result)) room (c .new-reader .ensures .gives .all (c .args .input .now)))
+    answering-none (c .args .sink .now) (reading (c .new-reader .result)) (c .args .input .now) (state (c .new-chart .result)) fresh room (c .new-reader .ensures .gives .all (c .args .input .now)) (c .new-chart .ensures)
 
 pub loop-b-again : need.loop-b-again
 loop-b-again c =
