@@ -1,0 +1,46 @@
+// The square: a cell for each pair, the mirrored one apart.
+ghost use Rattle.layouts.specs.Square.{named, place, total, wide};
+use crate::{Capacity, EdgeType};
+use std::cmp;
+
+const MIN_CAPACITY: usize = 4;
+
+#[derive(Clone, Copy)]
+pub struct Directed;
+
+pub impl EdgeType for Directed as DirectedEdgeType {
+    ghost total = { total };
+
+    ghost place = { place };
+
+    ghost named = { named };
+
+    ghost wide = { wide };
+
+    fn cell_count(self, capacity: Capacity) -> usize {
+        let width = capacity.get();
+        width * width
+    }
+
+    fn to_edge_position(self, capacity: Capacity, row: u8, column: u8) -> Option<usize> {
+        let width = capacity.get();
+        let (row, column) = (row as usize, column as usize);
+        if cmp::max(row, column) >= width {
+            return None;
+        }
+        Some(row * width + column)
+    }
+
+    fn to_pair(self, capacity: Capacity, position: usize) -> Option<(u8, u8)> {
+        let width = capacity.get();
+        if position >= width * width {
+            return None;
+        }
+        Some(((position / width) as u8, (position % width) as u8))
+    }
+
+    fn grown_capacity(self, node_count: Capacity) -> Capacity {
+        let power = node_count.get().next_power_of_two();
+        Capacity::saturating(cmp::max(power, MIN_CAPACITY))
+    }
+}
