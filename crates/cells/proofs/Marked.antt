@@ -15,10 +15,11 @@ only is w none = ⊎-elim (λ (e : is w ≡ true). e) (λ (e : is w ≡ false). 
 
 pub marked : {W : Type 0} (is : W → Bool) (z : W) → is z ≡ true → ((w : W) → is w ≡ true → w ≡ z) →
     Lawful {C = NotZero W} {W = W} (λ x. cond (is (x .0)) None (Some (x .0))) (record { 0 = z })
-      (λ w. cond (is w) None (Some (record { 0 = w })))
+    (λ w. cond (is w) None (Some (record { 0 = w })))
 marked {W} is z at-z alone = record {
   nothing = rw at-z refl;
   held = λ w x e. grind (arith, tells);
   refused = λ w e h. grind (arith, tells);
   same = λ x y e. grind (arith, tells);
-  one = λ v w nv nw. alone v (only is v nv) ∙ sym (alone w (only is w nw)) }
+  one = λ v w nv nw. alone v (only is v nv) ∙ sym (alone w (only is w nw));
+}

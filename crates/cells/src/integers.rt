@@ -4,6 +4,12 @@ ghost use lib.IntN.{pos};
 ghost use Rattle.cells.specs.Zeros.{is-zero};
 use crate::Zero;
 
+macro_rules! is_zero {
+    ($number:expr) => {
+        *$number == 0
+    };
+}
+
 pub impl Zero for u8 as U8Zero {
     ghost sentinel = { 0 };
 
@@ -14,7 +20,7 @@ pub impl Zero for u8 as U8Zero {
     }
 
     fn is_zero(&self) -> bool {
-        *self == 0
+        is_zero!(self)
     }
 }
 
@@ -28,7 +34,7 @@ pub impl Zero for u16 as U16Zero {
     }
 
     fn is_zero(&self) -> bool {
-        *self == 0
+        is_zero!(self)
     }
 }
 
@@ -42,7 +48,7 @@ pub impl Zero for u32 as U32Zero {
     }
 
     fn is_zero(&self) -> bool {
-        *self == 0
+        is_zero!(self)
     }
 }
 
@@ -56,7 +62,7 @@ pub impl Zero for u64 as U64Zero {
     }
 
     fn is_zero(&self) -> bool {
-        *self == 0
+        is_zero!(self)
     }
 }
 
@@ -70,7 +76,7 @@ pub impl Zero for usize as UsizeZero {
     }
 
     fn is_zero(&self) -> bool {
-        *self == 0
+        is_zero!(self)
     }
 }
 
@@ -84,7 +90,7 @@ pub impl Zero for i8 as I8Zero {
     }
 
     fn is_zero(&self) -> bool {
-        *self == 0
+        is_zero!(self)
     }
 }
 
@@ -98,7 +104,7 @@ pub impl Zero for i16 as I16Zero {
     }
 
     fn is_zero(&self) -> bool {
-        *self == 0
+        is_zero!(self)
     }
 }
 
@@ -112,7 +118,7 @@ pub impl Zero for i32 as I32Zero {
     }
 
     fn is_zero(&self) -> bool {
-        *self == 0
+        is_zero!(self)
     }
 }
 
@@ -126,7 +132,7 @@ pub impl Zero for i64 as I64Zero {
     }
 
     fn is_zero(&self) -> bool {
-        *self == 0
+        is_zero!(self)
     }
 }
 
@@ -140,6 +146,6 @@ pub impl Zero for isize as IsizeZero {
     }
 
     fn is_zero(&self) -> bool {
-        *self == 0
+        is_zero!(self)
     }
 }

@@ -2,7 +2,8 @@
 ghost use mathlib.Core.Path.{_≡_};
 ghost use mathlib.Core.Bool.{cond};
 ghost use Rattle.std.specs.declared.option.Option.the-variants.{Some, None};
-use crate::{Nullable, Zero};
+use crate::Nullable;
+use crate::Zero;
 
 #[derive(Clone, Copy)]
 pub struct NotZero<T>(T);
@@ -33,11 +34,7 @@ pub impl<T: Zero> Nullable for NotZero<T> as NotZeroNullable {
     }
 
     fn as_ref(&self) -> Option<&T> {
-        if self.is_null() {
-            None
-        } else {
-            Some(&self.0)
-        }
+        if self.is_null() { None } else { Some(&self.0) }
     }
 
     fn is_null(&self) -> bool {

@@ -1,0 +1,5 @@
+pub mod Doubling
+pub mod Placed
+pub mod Square
+pub mod Starts
+pub mod Triangle

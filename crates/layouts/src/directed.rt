@@ -1,6 +1,9 @@
 // The square: a cell for each pair, the mirrored one apart.
-ghost use Rattle.layouts.specs.Square.{named, place, total, wide};
-use crate::{Capacity, EdgeType};
+ghost use mathlib.Core.Path.{_≡_};
+ghost use Rattle.layouts.specs.Capacities.{size};
+ghost use Rattle.layouts.specs.Square.{doubled, named, place, total, wide};
+use crate::Capacity;
+use crate::EdgeType;
 use std::cmp;
 
 const MIN_CAPACITY: usize = 4;
@@ -33,14 +36,20 @@ pub impl EdgeType for Directed as DirectedEdgeType {
 
     fn to_pair(self, capacity: Capacity, position: usize) -> Option<(u8, u8)> {
         let width = capacity.get();
-        if position >= width * width {
+        if position >= self.cell_count(capacity) {
             return None;
         }
         Some(((position / width) as u8, (position % width) as u8))
     }
 
     fn grown_capacity(self, node_count: Capacity) -> Capacity {
-        let power = node_count.get().next_power_of_two();
-        Capacity::saturating(cmp::max(power, MIN_CAPACITY))
+        Capacity::saturating(cmp::max(least_power(node_count), MIN_CAPACITY))
     }
+}
+
+// The least power of two that is at least so many.
+fn least_power(node_count: Capacity) -> usize
+    ensures { λ r. ⌜ r ≡ doubled 8 1 (size «node_count») ⌝ }
+{
+    node_count.get().next_power_of_two()
 }

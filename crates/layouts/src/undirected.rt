@@ -3,8 +3,9 @@ ghost use mathlib.Core.Path.{_≡_};
 ghost use Prim.Native.Nat.{_+_, _<_, _≤_};
 ghost use Rattle.layouts.specs.Capacities.{size};
 ghost use Rattle.layouts.specs.Triangle.{named, place, row, start, total, wide};
+use crate::Capacity;
+use crate::EdgeType;
 use crate::row_starts::row_start;
-use crate::{Capacity, EdgeType};
 use std::cmp;
 
 #[derive(Clone, Copy)]

@@ -1,0 +1,14 @@
+use mathlib.Core.Path.{_≡_, refl, _∙_, ap}
+use mathlib.Core.List.{List}
+use Prim.Native.Nat.{ℕ, _+_}
+use native.Mathlib.Omega.{arith}
+use lib.ListN.{getD}
+use Rattle.layouts.specs.Triangle.{start}
+use Rattle.layouts.proofs.Starts.{starts, starts-at}
+use Rattle.layouts.proofs.row_starts.row_start.Needs as need
+
+-- the whole table, computed
+pub returns : need.returns
+returns c =
+    let row = c .args .row in let each : getD (starts 0 257) row 0 ≡ start (0 + row) = starts-at 257 0 row (omega arith) in
+    each ∙ ap start (omega arith)
