@@ -1,46 +1,20 @@
 -- The square keeps the laws.
 use mathlib.Core.Path.{_≡_, refl, sym, _∙_, ap, subst}
 use mathlib.Core.Bool.{cond, _&&_}
-use mathlib.Core.Logic.{_⊎_, inl, inr, ⊎-elim}
+use mathlib.Core.Logic.{inl, ⊎-elim}
 use Prim.Native.Nat.{ℕ, _+_, _*_, _/_, _%_, _≤_, _<_}
-use native.Mathlib.Nat.{mul-le-mul, mul-le-mul-left, mul-le-mul-right}
+use native.Mathlib.Nat.{mul-le-mul, mul-le-mul-left}
 use native.Mathlib.Omega.{arith}
 use lib.Dec.{ltb}
 use Rattle.std.specs.declared.option.Option.{Option}
 use Rattle.std.specs.declared.option.Option.the-variants.{Some}
-use Rattle.std.proofs.shelf.Bits.{div-add-mod', div-mul-add, mod-mul-add, div-below, mod-below}
-use Rattle.std.proofs.shelf.Tests.{cases-lt, cases-order, lt-ltb}
+use Rattle.std.proofs.shelf.Bits.{div-add-mod', div-below, mod-below, mul-add-lt}
+use Rattle.std.proofs.shelf.Tests.{cases-lt, lt-ltb}
 use Rattle.std.proofs.shelf.Ways.{tells}
-use Rattle.layouts.specs.Laws.{Every-pair, Growing, Placing, Same-or-mirrored}
+use Rattle.layouts.specs.Laws.{Every-pair, Growing, Placing}
 use Rattle.layouts.specs.Square.{doubled, named, place, total, wide}
-use Rattle.layouts.proofs.Placed.{Placed, placed, has-cell, chosen}
-
--- the cells of a row lie before those of any later row
-rows-apart : (c a x b : ℕ) → b < c → a < x → a * c + b < x * c
-rows-apart c a x b bc ax = let p : (a + 1) * c ≤ x * c = mul-le-mul-right c (omega arith) in let e : (a + 1) * c ≡ a * c + c = grind arith in omega arith
-
--- the cell is below the count
-pub below : (c a b : ℕ) → a < c → b < c → a * c + b < c * c
-below c a b ac bc = rows-apart c a c b bc ac
-
-pub same-row : (c a b x y : ℕ) → b < c → y < c → a * c + b ≡ x * c + y → (a ≡ x) × (b ≡ y)
-same-row c a b x y bc yc e = (
-  sym (div-mul-add a c b bc) ∙ ap (λ k. k / c) e ∙ div-mul-add x c y yc,
-  sym (mod-mul-add a c b bc) ∙ ap (λ k. k % c) e ∙ mod-mul-add x c y yc,
-)
-
--- of two cells the earlier one has the smaller row, or an equal row and the smaller column
-earlier : (c a b x y : ℕ) → b < c → y < c → a * c + b < x * c + y → (a < x) ⊎ ((a ≡ x) × (b < y))
-earlier c a b x y bc yc h =
-    ⊎-elim (λ (e : a ≡ x). let m : a * c ≡ x * c = ap (λ k. k * c) e in inr (e, omega arith))
-    (⊎-elim inl (λ (l : x < a). let m = rows-apart c x a y yc l in absurd (omega arith)))
-    (cases-order a x)
-
-order : (c w a b x y : ℕ) → c ≤ w → b < c → y < c → a * c + b < x * c + y → a * w + b < x * w + y
-order c w a b x y cw bc yc h =
-    ⊎-elim (λ (l : a < x). let m = rows-apart w a x b (omega arith) l in omega arith)
-    (λ (e : (a ≡ x) × (b < y)). let m : a * w ≡ x * w = ap (λ k. k * w) (e .0) in omega arith)
-    (earlier c a b x y bc yc h)
+use Rattle.layouts.proofs.Placed.{placed, has-cell, chosen}
+use Rattle.layouts.proofs.Rows.{same, wider}
 
 -- a square that has a cell is not empty
 pub positive : (c k : ℕ) → k < c * c → 0 < c
@@ -51,7 +25,7 @@ every-pair c a b _ ac bc = (a * c + b, has-cell c a b _ ac bc)
 
 shared : (c a b x y k : ℕ) → place c a b ≡ Some k → place c x y ≡ Some k → (a ≡ x) × (b ≡ y)
 shared c a b x y k e f =
-    let p = placed c a b _ k e in let q = placed c x y _ k f in same-row c a b x y (p .column) (q .column) (sym (p .cell) ∙ q .cell)
+    let p = placed c a b _ k e in let q = placed c x y _ k f in same c a b x y (p .column) (q .column) (sym (p .cell) ∙ q .cell)
 
 own : (c k : ℕ) (p : ℕ × ℕ) → named c k ≡ Some p → place c (p .0) (p .1) ≡ Some k
 own c k p e =
@@ -62,7 +36,7 @@ own c k p e =
 pub placing : Placing total place named
 placing = record {
   few = λ c h. mul-le-mul h h;
-  within = λ c a b k _ e. let p = placed c a b _ k e in (p .row, p .column, rw (p .cell) (below c a b (p .row) (p .column)));
+  within = λ c a b k _ e. let p = placed c a b _ k e in (p .row, p .column, rw (p .cell) (mul-add-lt a c b c (p .row) (p .column)));
   each = λ c k _ h. ((k / c, k % c), rw (lt-ltb k (c * c) h) refl);
   own = λ c k p _ e. own c k p e;
   shared = λ c a b x y k _ e f. inl (shared c a b x y k e f);
@@ -79,7 +53,7 @@ growing = record {
   order = λ c n a b x y i j k l cn n256 e f g h lt.
       let p = placed c a b _ i e in let q = placed c x y _ j f in let r = placed (wide n) a b _ k g in let s = placed (wide n) x y _ l h in
       let cw : c ≤ wide n = omega (arith, wide-enough n n256) in
-      rw (r .cell, s .cell) (order c (wide n) a b x y cw (p .column) (q .column) (rw (p .cell, q .cell) at lt));
+      rw (r .cell, s .cell) (wider c (wide n) a b x y cw (p .column) (q .column) (rw (p .cell, q .cell) at lt));
   onward = λ c n a b i k cn n256 e g.
       let p = placed c a b _ i e in let r = placed (wide n) a b _ k g in
       let m : a * c ≤ a * wide n = mul-le-mul-left a (omega (arith, wide-enough n n256)) in omega arith;

@@ -1,0 +1,4 @@
+pub mod Seats
+pub mod Places
+pub mod Pairs
+pub mod Grown
