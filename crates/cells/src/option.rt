@@ -1,5 +1,4 @@
 // Every weight can be held.
-ghost use mathlib.Core.Path.{_≡_};
 ghost use Rattle.std.specs.declared.option.Option.the-variants.{Some, None};
 use crate::Nullable;
 

@@ -1,5 +1,5 @@
 -- A chart, and what the lines of a file do to it. Assumes nothing.
-use mathlib.Core.List.{List, [], _∷_, _++_}
+use mathlib.Core.List.{List, [], _++_}
 use lib.ListN.{replicate}
 use Prim.Native.Nat.{ℕ}
 use Rattle.std.specs.Iters.{counting}

@@ -5,9 +5,7 @@ use mathlib.Core.List.{List}
 use Prim.Native.Nat.{ℕ}
 use lib.Chars.{codes}
 use Rattle.std.specs.shelf.Text.{sameBytes}
-use Rattle.std.specs.declared.option.Option.{Option}
 use Rattle.std.specs.declared.option.Option.the-variants.{Some, None}
-use Rattle.commands.specs.declared.kind.Kind.{Kind}
 use Rattle.commands.specs.declared.kind.Kind.the-variants.{Square, Triangle}
 use Rattle.commands.specs.Commands.{kind}
 

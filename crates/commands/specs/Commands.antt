@@ -1,5 +1,5 @@
 -- What a line of a chart file asks for. Assumes nothing.
-use mathlib.Core.Bool.{Bool, true, false, cond, _&&_}
+use mathlib.Core.Bool.{cond}
 use mathlib.Core.List.{List, [], _∷_}
 use Prim.Native.Nat.{ℕ, min, _+_}
 use lib.Chars.{codes}

@@ -1,17 +1,17 @@
 -- What the record's arrays keep as an id is handed out or vacated. Assumes nothing.
-use mathlib.Core.Path.{_≡_, refl, ap, sym, subst, _∙_}
+use mathlib.Core.Path.{_≡_, refl, sym, subst, _∙_}
 use mathlib.Core.Bool.{Bool, true, false}
-use mathlib.Core.List.{List, [], _∷_, _++_}
-use mathlib.Core.Logic.{_≢_, ⊎-elim}
+use mathlib.Core.List.{List, _∷_}
+use mathlib.Core.Logic.{⊎-elim}
 use Prim.Native.Nat.{ℕ, zero, suc, _+_, _-_, _≤_, _<_}
 use native.Mathlib.Omega.{arith}
-use lib.ListN.{length, getD, set, drop}
-use Rattle.std.proofs.shelf.Lists.{getD-set-other, getD-set-same, getD-append-left, getD-append-right, getD-drop}
-use Rattle.std.proofs.shelf.Tests.{cases-eq, cases-lt, ne-eqb, eq-eqb, le-ltb, and-left}
+use lib.ListN.{length, getD, set}
+use Rattle.std.proofs.shelf.Lists.{getD-set-other, getD-set-same}
+use Rattle.std.proofs.shelf.Tests.{cases-eq, ne-eqb, eq-eqb}
 use Rattle.ids.specs.declared.record.IdStorage.{IdStorage}
 use Rattle.ids.specs.Ids.{Ids, live, sound, stacked, ids-of}
 use Rattle.ids.specs.Calls.{next, taken, vacated}
-use Rattle.ids.proofs.Stack.{length-stacked, stacked-set, length-sound, sound-parts, sound-push, live-none}
+use Rattle.ids.proofs.Stack.{length-stacked, stacked-set, length-sound, sound-parts, sound-push}
 use Rattle.ids.proofs.Live.{Turned, turned-taken, turned-vacated, sound-taken, sound-vacated, live-parts}
 
 -- the table tells which ids are live

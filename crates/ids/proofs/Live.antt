@@ -1,16 +1,14 @@
 -- Which ids are live once one is handed out or vacated. Assumes nothing.
-use mathlib.Core.Path.{_≡_, refl, ap, sym, subst, _∙_}
-use mathlib.Core.Bool.{Bool, true, false, cond, not, _&&_, _||_}
+use mathlib.Core.Path.{_≡_, refl}
+use mathlib.Core.Bool.{Bool, true, false, not, _||_}
 use mathlib.Core.List.{List, [], _∷_}
-use mathlib.Core.Logic.{_≢_, _⊎_, inl, inr, ⊎-elim}
-use Prim.Native.Nat.{ℕ, zero, suc, _+_, _-_, _≤_, _<_}
+use mathlib.Core.Logic.{_⊎_, ⊎-elim}
+use Prim.Native.Nat.{ℕ, _+_, _<_}
 use native.Mathlib.Omega.{arith}
 use lib.Dec.{eqb, ltb}
-use lib.ListN.{length, getD, set}
-use Rattle.std.proofs.shelf.Lists.{getD-set-other, getD-set-same}
 use Rattle.std.proofs.shelf.Tests.{and-parts, and-from, and-left, and-right, not-true, cases-eq, eq-eqb, ne-eqb, lt-ltb, le-ltb, ltb-true}
 use Rattle.std.proofs.shelf.Ways.{tells}
-use Rattle.ids.specs.Ids.{Ids, has, live, sound, stacked}
+use Rattle.ids.specs.Ids.{Ids, has, live, sound}
 use Rattle.ids.specs.Calls.{next, taken, vacated}
 use Rattle.ids.proofs.Stack.{sound-parts, sound-push, sound-lower, live-first}
 

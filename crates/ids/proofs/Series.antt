@@ -1,20 +1,18 @@
 -- The ids that any series of calls hands out. Assumes nothing.
-use mathlib.Core.Path.{_≡_, refl, ap, sym, subst, _∙_}
-use mathlib.Core.Bool.{Bool, true, false, cond}
+use mathlib.Core.Path.{_≡_, refl, sym, _∙_}
+use mathlib.Core.Bool.{true, false}
 use mathlib.Core.List.{List, [], _∷_}
 use mathlib.Core.Logic.{⊎-elim}
-use Prim.Native.Nat.{ℕ, suc, max, _+_, _≤_, _<_}
+use Prim.Native.Nat.{ℕ, max, _+_, _≤_, _<_}
 use native.Mathlib.Omega.{arith}
-use lib.Dec.{eqb}
-use lib.ListN.{length, set}
+use lib.ListN.{length}
 use Rattle.std.specs.Orderings.{Decides}
 use Rattle.std.proofs.shelf.Tests.{cases-eq, eq-eqb, ne-eqb}
-use Rattle.std.proofs.shelf.Ways.{tells}
 use Rattle.ids.specs.Ids.{Ids, none, live, count, sound}
-use Rattle.ids.specs.Calls.{next, taken, vacated, added, removed, refused, accepted}
-use Rattle.ids.specs.Series.{History, Deed, Series, start, add, remove, clear, handed, vacated as vacated-deed, emptied, with-added, with-removed, lives, counted, peak, handed-out, Keeps, Series-keep}
+use Rattle.ids.specs.Calls.{next, taken, vacated}
+use Rattle.ids.specs.Series.{History, Deed, Series, start, add, remove, clear, handed, vacated as vacated-deed, emptied, lives, counted, peak, handed-out, Series-keep}
 use Rattle.ids.proofs.Stack.{counted-same, counted-live, sound-parts, live-none}
-use Rattle.ids.proofs.Live.{Turned, turned-taken, turned-vacated, sound-taken, sound-vacated, live-parts}
+use Rattle.ids.proofs.Live.{Turned, turned-taken, turned-vacated, sound-vacated}
 use Rattle.ids.proofs.Adding.{added-cases, removed-cases}
 
 -- what every series keeps

@@ -1,17 +1,16 @@
 -- Laws of the stack of vacated ids, and of the count of live ids. Assumes nothing.
 use mathlib.Core.Path.{_≡_, refl, ap, sym, _∙_}
-use mathlib.Core.Bool.{Bool, true, false, cond, not, _&&_, _||_}
+use mathlib.Core.Bool.{Bool, true, false, not, _&&_}
 use mathlib.Core.List.{List, [], _∷_}
-use mathlib.Core.Logic.{_≢_, _⊎_, inl, inr, ⊎-elim}
-use Prim.Native.Nat.{ℕ, zero, suc, _+_, _-_, _≤_, _<_}
+use mathlib.Core.Logic.{_≢_, _⊎_, ⊎-elim}
+use Prim.Native.Nat.{ℕ, zero, suc, _+_, _≤_, _<_}
 use native.Mathlib.Omega.{arith}
 use lib.Dec.{eqb, ltb}
-use lib.ListN.{length, getD, set}
-use borrow.Author.Needs.{needs}
-use Rattle.std.proofs.shelf.Lists.{getD-set-other, getD-set-same}
-use Rattle.std.proofs.shelf.Tests.{and-parts, and-from, and-left, and-right, or-parts, not-true, cases-eq, eq-eqb, ne-eqb, lt-ltb, le-ltb, ltb-true, cases-lt, cond-true, cond-false}
+use lib.ListN.{length, set}
+use Rattle.std.proofs.shelf.Lists.{getD-set-other}
+use Rattle.std.proofs.shelf.Tests.{and-parts, and-from, and-left, or-parts, not-true, cases-eq, eq-eqb, ne-eqb, lt-ltb, le-ltb, ltb-true}
 use Rattle.std.proofs.shelf.Ways.{tells}
-use Rattle.ids.specs.Ids.{Ids, has, live, sound, stacked}
+use Rattle.ids.specs.Ids.{has, live, sound, stacked}
 use Rattle.ids.specs.Series.{counted}
 
 pub length-stacked : (n : ℕ) (xs : List ℕ) → length (stacked n xs) ≡ n

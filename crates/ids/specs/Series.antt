@@ -9,7 +9,7 @@ use Rattle.std.specs.declared.result.Result.{Result}
 use Rattle.std.specs.declared.result.Result.the-variants.{Ok, Err}
 use Rattle.errors.specs.declared.MatrixError.{MatrixError}
 use Rattle.ids.specs.Ids.{Ids, none, live, count}
-use Rattle.ids.specs.Calls.{Outcome, added, removed}
+use Rattle.ids.specs.Calls.{added, removed}
 
 -- what an accepted call did to the ids
 pub data Deed : Type 0 where

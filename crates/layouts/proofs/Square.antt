@@ -1,18 +1,15 @@
 -- The square keeps the laws.
 use mathlib.Core.Path.{_≡_, refl, sym, _∙_, ap, subst}
-use mathlib.Core.Bool.{cond, _&&_}
 use mathlib.Core.Logic.{inl, ⊎-elim}
 use Prim.Native.Nat.{ℕ, _+_, _*_, _/_, _%_, _≤_, _<_}
 use native.Mathlib.Nat.{mul-le-mul, mul-le-mul-left}
 use native.Mathlib.Omega.{arith}
-use lib.Dec.{ltb}
-use Rattle.std.specs.declared.option.Option.{Option}
 use Rattle.std.specs.declared.option.Option.the-variants.{Some}
 use Rattle.std.proofs.shelf.Bits.{div-add-mod', div-below, mod-below, mul-add-lt}
 use Rattle.std.proofs.shelf.Tests.{cases-lt, lt-ltb}
 use Rattle.std.proofs.shelf.Ways.{tells}
 use Rattle.layouts.specs.Laws.{Every-pair, Growing, Placing}
-use Rattle.layouts.specs.Square.{doubled, named, place, total, wide}
+use Rattle.layouts.specs.Square.{named, place, total, wide}
 use Rattle.layouts.proofs.Placed.{placed, has-cell, chosen}
 use Rattle.layouts.proofs.Rows.{same, wider}
 

@@ -1,19 +1,18 @@
 -- The triangle keeps the laws.
 use mathlib.Core.Path.{_≡_, refl, sym, _∙_, ap, subst}
-use mathlib.Core.Bool.{cond, _&&_}
+use mathlib.Core.Bool.{_&&_}
 use mathlib.Core.Logic.{_⊎_, inl, inr, ⊎-elim}
-use Prim.Native.Nat.{ℕ, zero, suc, _+_, _-_, _*_, _/_, _≤_, _<_, max, min}
+use Prim.Native.Nat.{ℕ, zero, suc, _+_, _-_, _*_, _≤_, _<_, max, min}
 use native.Mathlib.Nat.{mul-le-mul}
 use native.Mathlib.Numerals.{add-one}
 use native.Mathlib.Omega.{arith}
 use lib.Dec.{ltb}
-use Rattle.std.specs.declared.option.Option.{Option}
 use Rattle.std.specs.declared.option.Option.the-variants.{Some}
 use Rattle.std.proofs.shelf.Tests.{cases-lt, cases-order, lt-ltb}
 use Rattle.std.proofs.shelf.Ways.{tells}
 use Rattle.layouts.specs.Laws.{Every-pair, Growing, Placing, Same-or-mirrored}
 use Rattle.layouts.specs.Triangle.{named, place, row, start, total, wide}
-use Rattle.layouts.proofs.Placed.{Placed, placed, has-cell, chosen}
+use Rattle.layouts.proofs.Placed.{placed, has-cell, chosen}
 use Rattle.layouts.proofs.Starts.{row-before, row-is, rows-rise, start-next}
 
 few : (c : ℕ) → c ≤ 256 → total c ≤ 65536

@@ -2,7 +2,7 @@
 ghost use mathlib.Core.Path.{_≡_};
 ghost use mathlib.Core.Bool.{true};
 ghost use Prim.Native.Nat.{_+_, _<_};
-ghost use lib.ListN.{length, set};
+ghost use lib.ListN.{set};
 ghost use Rattle.ids.specs.Calls.{added, crowded, next, removed, room, taken, vacated};
 ghost use Rattle.ids.specs.Ids.{count, live, none};
 ghost use Rattle.ids.specs.Record.{ids};

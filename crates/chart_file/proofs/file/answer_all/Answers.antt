@@ -1,5 +1,4 @@
-use mathlib.Core.Path.{_≡_, sym, ap, subst, _∙_}
-use mathlib.Core.List.{[], _∷_}
+use mathlib.Core.Path.{ap, subst, _∙_}
 use Prim.Native.Nat.{_+_, _<_, _≤_, _^_}
 use native.Mathlib.Omega.{arith}
 use borrow.Author.Needs.{needs}
@@ -12,7 +11,7 @@ use Rattle.sink.specs.Output.{Wrote}
 use Rattle.chart_file.specs.Chart.{fresh, listing}
 use Rattle.chart_file.specs.Turns.{next-state}
 use Rattle.chart_file.specs.Record.{state}
-use Rattle.chart_file.proofs.Running.{Answering, answering-none, answering-more, answering-all}
+use Rattle.chart_file.proofs.Running.{answering-none, answering-more, answering-all}
 use Rattle.chart_file.proofs.file.answer_all.Needs as need
 
 pub loop-b-holds : need.loop-b-holds

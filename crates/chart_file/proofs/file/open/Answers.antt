@@ -1,10 +1,9 @@
-use mathlib.Core.Path.{_≡_, sym, ap, _∙_}
+use mathlib.Core.Path.{sym, ap, _∙_}
 use Prim.Native.Nat.{_+_}
 use lib.ListN.{getD, drop, length-drop}
 use native.Mathlib.Omega.{arith}
-use borrow.Author.Needs.{needs}
 use Rattle.std.proofs.shelf.Lists.{take-rest, at-drop-more, at-drop-all}
-use Rattle.lines.specs.Lines.{given as gives, stepped, completed}
+use Rattle.lines.specs.Lines.{given as gives, completed}
 use Rattle.lines.specs.Readers.{reading}
 use Rattle.chart_file.proofs.Running.{opened-at, opened-later, opened-last, opened-none, rest-within}
 use Rattle.chart_file.proofs.file.open.Needs as need

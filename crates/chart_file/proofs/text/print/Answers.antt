@@ -1,8 +1,4 @@
-use borrow.Author.Needs.{needs}
-use mathlib.Core.Path.{_≡_, sym}
-use mathlib.Core.List.{[], map}
-use native.Mathlib.Omega.{arith}
-use Rattle.std.specs.Joined.{joined}
+use mathlib.Core.List.{[]}
 use Rattle.std.specs.Written.{decimal}
 use Rattle.std.proofs.shelf.Lists.{take-more, take-all, joined-more}
 use Rattle.sink.proofs.Writes.{wrote-then-none, wrote-append}

@@ -1,4 +1,3 @@
-use borrow.Author.Needs.{needs}
 use Rattle.std.proofs.shelf.Equals.{sameBytes-decides, matches-decides}
 use Rattle.std.proofs.shelf.Ways.{same-from-decides}
 use Rattle.commands.proofs.kind.same.Needs as need

@@ -1,9 +1,6 @@
-use mathlib.Core.Path.{_≡_, refl, sym}
-use native.Mathlib.Omega.{arith}
-use Prim.Native.Nat.{_<_}
+use mathlib.Core.Path.{_≡_, sym}
 use lib.ListN.{length}
 use borrow.Author.Needs.{needs}
-use Rattle.ids.specs.declared.record.IdStorage.{IdStorage}
 use Rattle.ids.proofs.Kept.{kept-of, ghosts, kept-lower, vacated-lower}
 use Rattle.ids.proofs.record.IdStorage.lower.Needs as need
 

@@ -1,9 +1,7 @@
-use mathlib.Core.Path.{_≡_, refl, sym}
+use mathlib.Core.Path.{_≡_, sym}
 use native.Mathlib.Omega.{arith}
-use Prim.Native.Nat.{_<_}
 use lib.ListN.{length}
 use borrow.Author.Needs.{needs}
-use Rattle.ids.specs.declared.record.IdStorage.{IdStorage}
 use Rattle.ids.proofs.Kept.{kept-of, ghosts, kept-new, taken-new}
 use Rattle.ids.proofs.record.IdStorage.take_new.Needs as need
 

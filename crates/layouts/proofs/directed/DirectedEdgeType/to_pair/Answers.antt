@@ -1,7 +1,6 @@
-use borrow.Author.Needs.{needs}
 use native.Mathlib.Omega.{arith}
 use Prim.Native.Nat.{_<_, _*_}
-use Rattle.std.proofs.shelf.Bits.{div-below, mod-below}
+use Rattle.std.proofs.shelf.Bits.{div-below}
 use Rattle.layouts.proofs.Square.{positive}
 use Rattle.layouts.proofs.directed.DirectedEdgeType.to_pair.Needs as need
 
