@@ -1,4 +1,4 @@
-// Every weight but zero can be held, with no room beside it.
+// Every weight but zero can be held: zero marks that there is none.
 ghost use mathlib.Core.Path.{_≡_};
 ghost use mathlib.Core.Bool.{cond};
 ghost use Rattle.std.specs.declared.option.Option.the-variants.{Some, None};

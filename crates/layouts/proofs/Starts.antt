@@ -6,12 +6,7 @@ use Prim.Native.Nat.{ℕ, zero, suc, _+_, _-_, _*_, _≤_, _<_}
 use native.Mathlib.Omega.{arith}
 use lib.ListN.{getD}
 use Rattle.std.proofs.shelf.Tests.{cases-lt, lt-ltb, le-ltb}
-use Rattle.layouts.specs.Triangle.{row, start}
-
--- where n rows start, from row r on
-abbrev pub starts : ℕ → ℕ → List ℕ
-starts r zero = []
-starts r (suc n) = start r ∷ starts (r + 1) n
+use Rattle.layouts.specs.Triangle.{row, start, starts}
 
 pub starts-at : (n r k : ℕ) → k < n → getD (starts r n) k 0 ≡ start (r + k)
 starts-at zero r k h = absurd (omega arith)

@@ -1,5 +1,6 @@
 -- The triangle: one cell for a pair and its mirror, row after row, row at least column. Assumes nothing.
 use mathlib.Core.Bool.{cond, _&&_}
+use mathlib.Core.List.{List, [], _∷_}
 use Prim.Native.Nat.{ℕ, zero, suc, _+_, _-_, _*_, _/_, max, min}
 use lib.Dec.{ltb}
 use Rattle.std.specs.Options.{whenTrue}
@@ -8,6 +9,11 @@ use Rattle.std.specs.declared.option.Option.{Option}
 -- where row r starts
 abbrev pub start : ℕ → ℕ
 start r = r * (r + 1) / 2
+
+-- where n rows start, from row r on
+abbrev pub starts : ℕ → ℕ → List ℕ
+starts r zero = []
+starts r (suc n) = start r ∷ starts (r + 1) n
 
 abbrev pub total : ℕ → ℕ
 total c = start c

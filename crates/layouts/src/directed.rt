@@ -39,7 +39,9 @@ pub impl EdgeType for Directed as DirectedEdgeType {
         if position >= self.cell_count(capacity) {
             return None;
         }
-        Some(((position / width) as u8, (position % width) as u8))
+        let row = (position / width) as u8;
+        let column = (position % width) as u8;
+        Some((row, column))
     }
 
     fn grown_capacity(self, node_count: Capacity) -> Capacity {

@@ -1,13 +1,20 @@
 // Where each row of a triangle starts.
 ghost use mathlib.Core.Path.{_≡_};
 ghost use Prim.Native.Nat.{_≤_};
-ghost use Rattle.layouts.specs.Triangle.{start};
+ghost use Rattle.layouts.specs.Triangle.{start, starts};
 
 pub(crate) fn row_start(row: usize) -> usize
     requires { ⌜ row ≤ 256 ⌝ }
     ensures { λ r. ⌜ r ≡ start row ⌝ }
 {
-    ROW_STARTS[row] as usize
+    row_starts()[row] as usize
+}
+
+// The whole table, computed.
+fn row_starts() -> &'static [u16; 257]
+    ensures { λ r. ⌜ now r ≡ starts 0 257 ⌝ }
+{
+    &ROW_STARTS
 }
 
 const ROW_STARTS: [u16; 257] = [

@@ -1,6 +1,7 @@
 // The triangle: one cell for a pair and its mirror.
 ghost use mathlib.Core.Path.{_≡_};
-ghost use Prim.Native.Nat.{_+_, _<_, _≤_};
+ghost use Prim.Native.Nat.{ℕ, _+_, _<_, _≤_};
+ghost use Rattle.std.specs.declared.option.Option.the-variants.{Some};
 ghost use Rattle.layouts.specs.Capacities.{size};
 ghost use Rattle.layouts.specs.Triangle.{named, place, row, start, total, wide};
 use crate::Capacity;
@@ -33,12 +34,16 @@ pub impl EdgeType for Undirected as UndirectedEdgeType {
         Some(row_start(larger) + smaller)
     }
 
-    fn to_pair(self, capacity: Capacity, position: usize) -> Option<(u8, u8)> {
+    fn to_pair(self, capacity: Capacity, position: usize) -> Option<(u8, u8)>
+        ensures value { λ r. ⌜ r ≡ named (size capacity) position ⌝ }
+        ensures lower { λ r. ⌜ ((row column : ℕ) → r ≡ Some (row, column) → column ≤ row) ⌝ }
+    {
         if position >= self.cell_count(capacity) {
             return None;
         }
         let row = row_of(capacity, position);
-        Some((row as u8, (position - row_start(row)) as u8))
+        let column = position - row_start(row);
+        Some((row as u8, column as u8))
     }
 
     fn grown_capacity(self, node_count: Capacity) -> Capacity {
