@@ -1,4 +1,6 @@
 // Reads a chart file on standard input, and prints an answer for each of its lines and then the chart.
+#![tactic(auto)]
+
 use chart_file::{INPUT_MAX, run};
 use std::io;
 use std::io::{Read, Write};

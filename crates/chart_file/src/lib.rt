@@ -1,4 +1,6 @@
 // Chart files: each line is answered, and then the chart is listed.
+#![tactic(auto)]
+
 mod answer;
 mod chart;
 mod file;

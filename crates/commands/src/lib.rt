@@ -1,4 +1,6 @@
 // What a line of a chart file asks for, or why it is refused.
+#![tactic(auto)]
+
 mod command;
 mod fields;
 mod kind;

@@ -1,4 +1,6 @@
 // Why a graph call is refused, and the number that it is refused with.
+#![tactic(auto)]
+
 ghost use Rattle.std.specs.Prelude.{◌≡◌};
 ghost use Rattle.errors.specs.Refusals.{number};
 

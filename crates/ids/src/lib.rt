@@ -1,4 +1,6 @@
 // The ids of a graph: which are live, which are vacated, which one is handed out next.
+#![tactic(auto)]
+
 mod record;
 
 pub use record::IdStorage;

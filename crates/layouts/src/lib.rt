@@ -1,4 +1,6 @@
 // Which cell a pair of ids has, and how a chart grows: from numbers alone.
+#![tactic(auto)]
+
 mod capacity;
 mod directed;
 mod edge_type;

@@ -1,4 +1,6 @@
 // Lines of an input, byte by byte.
+#![tactic(auto)]
+
 mod line;
 mod reader;
 #[cfg(test)]

@@ -1,4 +1,6 @@
 // Decimal number fields: digits with no zero in front, but for `0` itself, and a minus before those of a negative number.
+#![tactic(auto)]
+
 ghost use Rattle.std.specs.Prelude.{◌≡◌, ◌^◌, ◌≤◌, [], ◌∷◌, Some};
 ghost use Rattle.numbers.specs.Fields.{Means, bounded, limited, negative, number_field, numeral, reading, size};
 

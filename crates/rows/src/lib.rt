@@ -1,4 +1,6 @@
 // Moving and filling rows of lent cells, as a matrix grows.
+#![tactic(auto)]
+
 mod growth;
 mod row;
 

@@ -1,4 +1,6 @@
 // What every series of graph calls keeps.
+#![tactic(auto)]
+
 pub fn nothing() -> u8 {
     0
 }

@@ -1,4 +1,6 @@
 // Output into a lent buffer: all of it is counted, and as much as fits is written.
+#![tactic(auto)]
+
 ghost use Rattle.std.specs.Prelude.{◌≡◌, [], ◌∷◌, decimal};
 ghost use Rattle.std.specs.Fmt.{signed_decimal};
 ghost use Rattle.sink.specs.Output.{laid, Wrote};

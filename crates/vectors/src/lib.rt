@@ -1,4 +1,6 @@
 // Chart files and series of calls with what they must give, run by the gate.
+#![tactic(auto)]
+
 #[cfg(test)]
 mod cells;
 mod charts;

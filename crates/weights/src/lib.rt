@@ -1,4 +1,6 @@
 // The weights of the two kinds of chart, and the cells that hold them.
+#![tactic(auto)]
+
 use cells::NotZero;
 
 // A stagger: by how many hundredths of a second one machine starts before or after another. Zero means no edge.
