@@ -2,9 +2,9 @@ use Rattle.std.proofs.Common.{rules}
 use Rattle.numbers.proofs.Meaning.{answered}
 use Rattle.numbers.proofs.read_number.Goals as goal
 
-pub returns-in-err-number : goal.returns-in-err-number
-returns-in-err-number c =
-    let (v, m) = answered c.ranges.low c.ranges.high c.args.field.now c.from-residual.result (search rules) in
+pub returns-in_err-number : goal.returns-in_err-number
+returns-in_err-number c =
+    let (v, m) = answered c.ranges.low c.ranges.high c.args.field.now c.from_residual.result (search rules) in
     record { value = v; means = m }
 
 pub returns : goal.returns

@@ -4,4 +4,4 @@ use Rattle.numbers.proofs.read_signed.Goals as goal
 
 -- the digits are the rest of the field
 pub returns-in-45 : goal.returns-in-45
-returns-in-45 c = let e = simp take_rest at c.read-negative.ensures in search rules
+returns-in-45 c = let e = simp take_rest at c.read_negative.ensures in search rules

@@ -15,12 +15,12 @@ length-step n ten fits = ap length (decimal_step n ten fits) ∙ length_push (de
 step : (n at : ℕ) (ds : List ℕ) → 10 ≤ n → n < 2 ^ 64 → at < length ds → decimal n ++ drop (at + 1) ds ≡ decimal (n / 10) ++ drop at (set ds at (48 + n % 10))
 step n at ds ten fits within = simp (decimal_step n ten fits, drop-set, append_assoc)
 
-pub overflow-sub-at : goal.overflow-sub-at
-overflow-sub-at c = search (rules, length-step, decimal_nonempty)
+pub overflow_sub-at : goal.overflow_sub-at
+overflow_sub-at c = search (rules, length-step, decimal_nonempty)
 
 pub loop-rest-preserved : goal.loop-rest-preserved
 loop-rest-preserved c =
-    let above : 1 ≤ c.loop-rest.at = overflow-sub-at c in
+    let above : 1 ≤ c.loop-rest.at = overflow_sub-at c in
     let back : c.loop-rest.at - 1 + 1 ≡ c.loop-rest.at = omega arith in
     simp back (search (rules, length-step, step))
 

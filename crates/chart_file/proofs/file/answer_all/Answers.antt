@@ -21,12 +21,12 @@ loop-b-preserved c =
     let r = reading c.loop-b.reader in
     let here = drop_more xs i 0 c.loop-b-test.true in
     let before = rw here at c.loop-b.invariant in
-    let line = c.answer-if-line.ensures.line in
+    let line = c.answer_if-line.ensures.line in
     let done = c.completed.ensures.line ∙ ap completed c.step.ensures in
-    let wrote = rw done at c.answer-if-line.ensures.wrote in
-    let bound = rw done at c.answer-if-line.ensures.bound in
+    let wrote = rw done at c.answer_if-line.ensures.wrote in
+    let bound = rw done at c.answer_if-line.ensures.bound in
     let more = answering_more c.loop-b.line r (get_or xs i 0) (drop (i + 1) xs) (state c.loop-b.chart) i before wrote bound in
-    simp (c.answer-if-line.ensures.line, c.answer-if-line.ensures.chart, c.step.ensures, done) more
+    simp (c.answer_if-line.ensures.line, c.answer_if-line.ensures.chart, c.step.ensures, done) more
 
 pub returns : goal.returns
 returns c =
@@ -35,9 +35,9 @@ returns c =
     let end = drop_all c.loop-b.b-index xs c.loop-b-test.false in
     let before = rw end at c.loop-b.invariant in
     let done = c.finished.ensures.line in
-    let wrote = rw done at c.answer-if.ensures.wrote in
-    let bound = rw done at c.answer-if.ensures.bound in
-    let after = c.answer-if.ensures.chart ∙ ap (λ o. next_state o (state c.loop-b.chart)) done in
-    let all = answering_all c.loop-b.line r (state c.loop-b.chart) c.loop-b.b-index before wrote bound (subst (λ s. Wrote c.answer-if.new.sink c.list.new.sink (listing s)) after c.list.ensures.wrote) (subst (λ s. length (listing s) ≤ 16384) after c.list.ensures.bound) in
+    let wrote = rw done at c.answer_if.ensures.wrote in
+    let bound = rw done at c.answer_if.ensures.bound in
+    let after = c.answer_if.ensures.chart ∙ ap (λ o. next_state o (state c.loop-b.chart)) done in
+    let all = answering_all c.loop-b.line r (state c.loop-b.chart) c.loop-b.b-index before wrote bound (subst (λ s. Wrote c.answer_if.new.sink c.list.new.sink (listing s)) after c.list.ensures.wrote) (subst (λ s. length (listing s) ≤ 16384) after c.list.ensures.bound) in
     let few = c.requires in
     record { wrote = all.0; bound = omega (arith, all.1) }

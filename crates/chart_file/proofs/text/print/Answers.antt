@@ -19,5 +19,5 @@ returns c =
     let same = joined-map parted decimal c.args.numbers.now in
     record {
       wrote = simp same (wrote-append c.text.ensures (wrote-append (simp all at c.loop-n.invariant) c.byte-2.ensures));
-      bound = length-printed c.args.word.now c.args.numbers.now (λ i. (c.type-inv.numbers i).fits);
+      bound = length-printed c.args.word.now c.args.numbers.now (λ i. (c.type_inv.numbers i).fits);
     }

@@ -4,4 +4,4 @@ use Rattle.layouts.proofs.directed.least_power.Goals as goal
 
 pub returns : goal.returns
 returns c =
-    sym (least c.args.node-count.value _ c.next-power-of-two.ensures.power (search rules) (search rules) (search rules))
+    sym (least c.args.node_count.value _ c.next_power_of_two.ensures.power (search rules) (search rules) (search rules))

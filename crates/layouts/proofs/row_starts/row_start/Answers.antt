@@ -6,4 +6,4 @@ use Rattle.layouts.proofs.row_starts.row_start.Goals as goal
 pub returns : goal.returns
 returns c =
     let row = c.args.row in
-    ap (λ xs. get_or xs row 0) c.row-starts.ensures ∙ starts_at 257 0 row (omega arith) ∙ ap start (omega arith)
+    ap (λ xs. get_or xs row 0) c.row_starts.ensures ∙ starts_at 257 0 row (omega arith) ∙ ap start (omega arith)

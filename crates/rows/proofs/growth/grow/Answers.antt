@@ -13,16 +13,16 @@ returns g c =
     let shape = g.L.EdgeType in
     let laws = g.met.L.EdgeType in
     let from = size c.args.capacity in
-    let to = size c.grown-capacity-grown.result in
-    let cells = c.move-runs-end.new.cells in
-    let end = c.move-runs-end.result.0 in
-    let top = c.move-runs-end.result.1 in
-    let e = c.move-runs-end.ensures in
+    let to = size c.grown_capacity-grown.result in
+    let cells = c.move_runs-end.new.cells in
+    let end = c.move_runs-end.result.0 in
+    let top = c.move_runs-end.result.1 in
+    let e = c.move_runs-end.ensures in
     let grows : Grows shape from to = search rules in
     let m = moves shape laws.every_pair laws.placing laws.growing from to grows kind in
     record {
-      capacity = c.grown-capacity-grown.ensures;
+      capacity = c.grown_capacity-grown.ensures;
       cells = ap (put_mid end (top - end) cells) c.fill.ensures
           ∙ settled kind shape from to m cells end top (search rules) e.parted e.stays
-          ∙ e.cells ∙ ap (λ d. grown kind shape from d c.args.cells.now) c.grown-capacity-grown.ensures;
+          ∙ e.cells ∙ ap (λ d. grown kind shape from d c.args.cells.now) c.grown_capacity-grown.ensures;
     }

@@ -12,12 +12,12 @@ returns g c =
     let laws = g.met.L.EdgeType in
     let from = size c.args.from in
     let to = size c.args.to in
-    let start = c.run-start-start.result in
+    let start = c.run_start-start.result in
     let shift = c.args.shift in
     let m = moves shape laws.every_pair laws.placing laws.growing from to c.requires.grows kind in
     let less : start < c.args.end = search rules in
-    let here = c.run-start-start.ensures.here in
-    let before = c.run-start-start.ensures.before in
+    let here = c.run_start-start.ensures.here in
+    let before = c.run_start-start.ensures.before in
     record {
       less = less;
       parted = parted_run kind shape from to m start c.args.end shift c.args.top c.requires.parted less c.requires.distance here before;

@@ -5,6 +5,6 @@ use Rattle.adjacency.proofs.record.AdjacencyMatrix.to_edge_position.Goals as goa
 pub returns : goal.returns
 returns g c =
     record {
-      value = c.to-edge-position.ensures;
-      below = place_below g.L.EdgeType g.met.L.EdgeType.placing _ c.args.a c.args.b c.to-edge-position.result c.args.self.now.node_capacity.small c.to-edge-position.ensures;
+      value = c.to_edge_position.ensures;
+      below = place_below g.L.EdgeType g.met.L.EdgeType.placing _ c.args.a c.args.b c.to_edge_position.result c.args.self.now.node_capacity.small c.to_edge_position.ensures;
     }

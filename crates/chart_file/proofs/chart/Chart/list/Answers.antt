@@ -9,7 +9,7 @@ use Rattle.chart_file.proofs.chart.Chart.list.Goals as goal
 pub returns : goal.returns
 returns c =
     let s = state c.args.self.now in
-    let nodes = c.list-nodes.ensures in
+    let nodes = c.list_nodes.ensures in
     let last = simp c.len.ensures.value at c.print.ensures.wrote in
     let short = simp c.len.ensures.value at c.print.ensures.bound in
     let long = length-append (node_lines s) (end_line (count s.ids) 0) in

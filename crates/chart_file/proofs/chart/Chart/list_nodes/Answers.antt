@@ -18,13 +18,13 @@ loop-id-preserved c =
     let step = flat_map_more f [] (range_with_len 0 i) i in
     let long = length-append (flat_map f (range_with_len 0 i)) (f i) in
     let low = c.loop-id.invariant.1 in
-    let one = c.list-node.ensures.bound in
-    simp (more, ← step) (wrote-append c.loop-id.invariant.0 c.list-node.ensures.wrote, omega arith)
+    let one = c.list_node.ensures.bound in
+    simp (more, ← step) (wrote-append c.loop-id.invariant.0 c.list_node.ensures.wrote, omega arith)
 
 pub returns : goal.returns
 returns c =
     let low = c.loop-id.invariant.1 in
-    let end : c.loop-id.id ≡ c.args.self.now.ids.upper_bound = omega (arith, c.node-bound-id-end.ensures.value) in
+    let end : c.loop-id.id ≡ c.args.self.now.ids.upper_bound = omega (arith, c.node_bound-id-end.ensures.value) in
     let wrote = rw end at c.loop-id.invariant.0 in
     let bound = rw end at c.loop-id.invariant.1 in
-    record { wrote = wrote; bound = omega (arith, c.node-bound-id-end.ensures.bound, c.node-bound-id-end.ensures.value) }
+    record { wrote = wrote; bound = omega (arith, c.node_bound-id-end.ensures.bound, c.node_bound-id-end.ensures.value) }

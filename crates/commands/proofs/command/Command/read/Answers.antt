@@ -13,10 +13,10 @@ pub returns-in-44 : goal.returns-in-44
 returns-in-44 c =
     let two : 2 ≤ length c.args.line.now = search rules in
     let comma : get_or c.args.line.now 1 0 ≡ 44 = search rules in
-    c.by-letter-in-44.ensures ∙ ap (by_letter (get_or c.args.line.now 0 0)) (simp take_rest at c.new.ensures) ∙ command_comma c.args.line.now two comma
+    c.by_letter-in-44.ensures ∙ ap (by_letter (get_or c.args.line.now 0 0)) (simp take_rest at c.new.ensures) ∙ command_comma c.args.line.now two comma
 
-pub returns-in-default : goal.returns-in-default
-returns-in-default c = command_none c.args.line.now (search rules)
+pub returns-in_default : goal.returns-in_default
+returns-in_default c = command_none c.args.line.now (search rules)
 
-pub returns-in-default·2 : goal.returns-in-default·2
-returns-in-default·2 c = command_other c.args.line.now (search rules) (search rules)
+pub returns-in_default·2 : goal.returns-in_default·2
+returns-in_default·2 c = command_other c.args.line.now (search rules) (search rules)

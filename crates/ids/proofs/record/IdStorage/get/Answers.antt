@@ -9,7 +9,7 @@ pub returns : goal.returns
 returns g c =
     let s = ids c.args.self.now in
     let long : s.bound ≤ length c.args.places.now = omega arith in
-    let alive = sym c.if-not-is-live.ensures in
+    let alive = sym c.if-not-is_live.ensures in
     let low = (live_parts s c.args.id alive).0 in
     let at = slice_get_read c.args.places.now (length c.args.places.now) c.args.id c.index-places-id.result refl (omega arith) c.index-places-id.is in
     sym (got_live s c.args.places.now c.args.id c.index-places-id.result long alive at)

@@ -3,8 +3,8 @@ use Rattle.ids.specs.Record.{ids}
 use Rattle.ids.proofs.Adding.{room_few, room_fits}
 use Rattle.ids.proofs.record.IdStorage.place.Goals as goal
 
-pub take-next-id-requires : goal.take-next-id-requires
-take-next-id-requires g c =
+pub take_next-id-requires : goal.take_next-id-requires
+take_next-id-requires g c =
     let low = c.args.self.now.bounded in
     let few = room_few (ids c.args.self.now) c.args.places.now c.requires in
     omega arith
@@ -12,5 +12,5 @@ take-next-id-requires g c =
 pub bounds-places-id : goal.bounds-places-id
 bounds-places-id g c =
     let fits = room_fits (ids c.args.self.now) c.args.places.now c.requires in
-    let same = ap (λ t. t.bound) c.take-next-id.ensures.after in
-    omega (arith, c.take-next-id.ensures.within)
+    let same = ap (λ t. t.bound) c.take_next-id.ensures.after in
+    omega (arith, c.take_next-id.ensures.within)

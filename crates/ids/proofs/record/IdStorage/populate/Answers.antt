@@ -5,17 +5,17 @@ use Rattle.ids.proofs.record.IdStorage.populate.Goals as goal
 
 pub loop-weight-smaller : goal.loop-weight-smaller
 loop-weight-smaller g c =
-    let e = vacancies_added c.loop-weight.self _ _ _ _ _ (sym c.in-ok-add.ensures.outcome) in
+    let e = vacancies_added c.loop-weight.self _ _ _ _ _ (sym c.in_ok-add.ensures.outcome) in
     omega arith
 
 pub loop-weight-preserved : goal.loop-weight-preserved
 loop-weight-preserved g c =
-    sym (populated_on _ _ _ c.loop-weight.self _ _ _ _ (sym c.loop-weight-test.ensures) (sym c.in-ok-add.ensures.outcome)) ∙ c.loop-weight.invariant
+    sym (populated_on _ _ _ c.loop-weight.self _ _ _ _ (sym c.loop-weight-test.ensures) (sym c.in_ok-add.ensures.outcome)) ∙ c.loop-weight.invariant
 
-pub returns-in-err-add : goal.returns-in-err-add
-returns-in-err-add g c =
-    let p = err_from_is_err_and c.from-residual.result c.from-residual.ensures.1 in
-    let stopped = populated_stop _ _ _ _ _ (sym c.loop-weight-test.ensures) _ _ _ _ (sym c.in-err-add.ensures.outcome) in
+pub returns-in_err-add : goal.returns-in_err-add
+returns-in_err-add g c =
+    let p = err_from_is_err_and c.from_residual.result c.from_residual.ensures.1 in
+    let stopped = populated_stop _ _ _ _ _ (sym c.loop-weight-test.ensures) _ _ _ _ (sym c.in_err-add.ensures.outcome) in
     rw (p.1, p.2) (sym stopped ∙ c.loop-weight.invariant)
 
 pub returns : goal.returns

@@ -8,8 +8,8 @@ bounds-self-height c =
     let len : length s.is_live ≡ 256 = search rules in
     room _ _ _ _ len (kept_of s) c.args.id c.requires.0
 
-pub invariant-of-self : goal.invariant-of-self
-invariant-of-self c =
+pub invariant_of-self : goal.invariant_of-self
+invariant_of-self c =
     let s = c.args.self.now in
     let len : length s.is_live ≡ 256 = search rules in
     let full : length s.removed_ids ≡ 255 = search rules in

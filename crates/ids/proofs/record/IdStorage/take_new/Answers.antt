@@ -2,8 +2,8 @@ use Rattle.std.proofs.Common.{◌≡◌, length, sym, arith, rules}
 use Rattle.ids.proofs.Kept.{kept_of, ghosts, kept_new, taken_new}
 use Rattle.ids.proofs.record.IdStorage.take_new.Goals as goal
 
-pub invariant-of-self : goal.invariant-of-self
-invariant-of-self c =
+pub invariant_of-self : goal.invariant_of-self
+invariant_of-self c =
     let s = c.args.self.now in
     let len : length s.is_live ≡ 256 = search rules in
     ghosts (kept_new _ _ _ _ len (kept_of s) c.requires.0 c.requires.1)

@@ -10,7 +10,7 @@ returns-in-Err g c =
 
 pub loop-number-preserved : goal.loop-number-preserved
 loop-number-preserved g c =
-    let turn = rest_more g.C.Nullable g.L.EdgeType c.args.weight c.args.edges.now c.loop-number.number (graph c.loop-number.self) c.loop-number.cells c.loop-number.places c.index-edges-number.result _ _ c.loop-number-test.true c.index-edges-number.is c.join.ensures c.in-default.is in
+    let turn = rest_more g.C.Nullable g.L.EdgeType c.args.weight c.args.edges.now c.loop-number.number (graph c.loop-number.self) c.loop-number.cells c.loop-number.places c.index-edges-number.result _ _ c.loop-number-test.true c.index-edges-number.is c.join.ensures c.in_default.is in
     sym turn ∙ c.loop-number.invariant
 
 pub returns : goal.returns
