@@ -18,12 +18,9 @@ pub record Kept (b n : ℕ) (xs : List ℕ) (t : List Bool) : Type 0 where
   pub once : sound b (stacked n xs) ≡ true
   pub table : Table t (ids_of b n xs)
 
--- what the ghost fields of a record say, and back
+-- what the ghost fields of a record say
 pub kept_of : (s : IdStorage) → Kept s.upper_bound s.removed s.removed_ids s.is_live
 kept_of s = record { bounded = s.bounded; fewer = s.fewer; once = s.once; table = s.table }
-
-pub ghosts : {b n : ℕ} {xs : List ℕ} {t : List Bool} → Kept b n xs t → (b ≤ 255) × ((n ≤ b) × ((sound b (stacked n xs) ≡ true) × (Table t (ids_of b n xs) × Unit {0})))
-ghosts k = (k.bounded, (k.fewer, (k.once, (k.table, tt))))
 
 table_set : (t : List Bool) (j : ℕ) (v : Bool) (s s' : Ids) → length t ≡ 256 → Table t s → Turned s s' j v → Table (set t j v) s'
 table_set t j v s s' len h turned k l =

@@ -1,5 +1,5 @@
 use Rattle.std.proofs.Common.{◌≡◌, length, sym, arith, rules}
-use Rattle.ids.proofs.Kept.{kept_of, ghosts, kept_push, vacated_push, room}
+use Rattle.ids.proofs.Kept.{kept_of, kept_push, vacated_push, room}
 use Rattle.ids.proofs.record.IdStorage.push.Goals as goal
 
 pub bounds-self-height : goal.bounds-self-height
@@ -13,7 +13,8 @@ invariant_of-self c =
     let s = c.args.self.now in
     let len : length s.is_live ≡ 256 = search rules in
     let full : length s.removed_ids ≡ 255 = search rules in
-    ghosts (kept_push _ _ _ _ len (kept_of s) c.args.id c.requires.0 c.requires.1 full)
+    let k = kept_push _ _ _ _ len (kept_of s) c.args.id c.requires.0 c.requires.1 full in
+    record { bounded = k.bounded; fewer = k.fewer; once = k.once; table = k.table }
 
 pub returns : goal.returns
 returns c =
