@@ -18,5 +18,5 @@ returns-in-44 c =
 pub returns-in_default : goal.returns-in_default
 returns-in_default c = command_none c.args.line.now (search rules)
 
-pub returns-in_default·2 : goal.returns-in_default·2
-returns-in_default·2 c = command_other c.args.line.now (search rules) (search rules)
+pub returns-in_default-2 : goal.returns-in_default-2
+returns-in_default-2 c = command_other c.args.line.now (search rules) (search rules)
