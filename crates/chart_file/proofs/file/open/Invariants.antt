@@ -1,5 +1,5 @@
 use Rattle.std.proofs.Common.{◌≡◌, drop}
-use Rattle.lines.specs.Lines.{goal as gives, lines}
+use Rattle.lines.specs.Lines.{given as gives, lines}
 use Rattle.lines.specs.Readers.{reading}
 use Rattle.chart_file.proofs.file.open.Given as goal
 
