@@ -3,6 +3,7 @@
 
 #[cfg(test)]
 mod cells;
+#[cfg(test)]
 mod charts;
 #[cfg(test)]
 mod ids;
