@@ -17,7 +17,7 @@ pub fn grow<C: Nullable, L: EdgeType>(
 ) -> Capacity
     requires { (size capacity < size node_count) × (L.EdgeType.total (L.EdgeType.wide (size node_count)) ≤ length cells.old) }
     ensures capacity { size result ≡ L.EdgeType.wide (size node_count) }
-    ensures cells { cells.new ≡ grown C.Nullable L.EdgeType (size capacity) (L.EdgeType.wide (size node_count)) cells.old }
+    ensures cells { cells.new ≡ grown C.Nullable.own L.EdgeType (size capacity) (L.EdgeType.wide (size node_count)) cells.old }
 {
     let grown = layout.grown_capacity(node_count);
     let (end, top) = move_runs(cells, layout, capacity, grown);
@@ -36,7 +36,7 @@ fn move_runs<C: Nullable, L: EdgeType>(
     requires room { L.EdgeType.total (size to) ≤ length cells.old }
     ensures parted { Parted L.EdgeType (size from) (size to) result.0 result.1 }
     ensures stays { 0 < result.0 → moves_by L.EdgeType (size from) (size to) (result.0 - 1) ≡ 0 }
-    ensures cells { grown_below C.Nullable L.EdgeType (size from) (size to) result.1 cells.new ≡ grown C.Nullable L.EdgeType (size from) (size to) cells.old }
+    ensures cells { grown_below C.Nullable.own L.EdgeType (size from) (size to) result.1 cells.new ≡ grown C.Nullable.own L.EdgeType (size from) (size to) cells.old }
 {
     let mut end = layout.cell_count(from);
     let mut top = layout.cell_count(to);
@@ -68,7 +68,7 @@ fn move_run<C: Nullable, L: EdgeType>(
     requires distance { shift ≡ moves_by L.EdgeType (size from) (size to) (end - 1) }
     ensures less { result < end }
     ensures parted { Parted L.EdgeType (size from) (size to) result (result + shift) }
-    ensures cells { grown_below C.Nullable L.EdgeType (size from) (size to) (result + shift) cells.new ≡ grown_below C.Nullable L.EdgeType (size from) (size to) top cells.old }
+    ensures cells { grown_below C.Nullable.own L.EdgeType (size from) (size to) (result + shift) cells.new ≡ grown_below C.Nullable.own L.EdgeType (size from) (size to) top cells.old }
 {
     let start = run_start(layout, from, to, end - 1, shift);
     lift(cells, start, end, shift, top);
@@ -78,7 +78,7 @@ fn move_run<C: Nullable, L: EdgeType>(
 // Moves the cells from `start` to `end` up, and empties those from there to `top`.
 fn lift<C: Nullable>(cells: &mut [C], start: usize, end: usize, shift: usize, top: usize)
     requires { (start ≤ end) × ((end + shift ≤ top) × (top ≤ length cells.old)) }
-    ensures { cells.new ≡ lifted C.Nullable start end shift top cells.old }
+    ensures { cells.new ≡ lifted C.Nullable.own start end shift top cells.old }
 {
     fill(&mut cells[end + shift..top]);
     move_row(&mut cells[start..end + shift], shift);

@@ -19,7 +19,7 @@ impl<L: EdgeType> AdjacencyMatrix<L> {
         cells: &mut [C],
         capacity: usize,
     ) -> Result<(), MatrixError>
-        ensures { record { answer = result; matrix = matrix self.new; cells = cells.new } ≡ made C.Nullable L.EdgeType (matrix self.old) cells.old capacity }
+        ensures { record { answer = result; matrix = matrix self.new; cells = cells.new } ≡ made C.Nullable.own L.EdgeType (matrix self.old) cells.old capacity }
     {
         if capacity > 255 {
             return Err(MatrixError::NodeIxLimit);
@@ -43,7 +43,7 @@ impl<L: EdgeType> AdjacencyMatrix<L> {
         b: u8,
         weight: C::Wrapped,
     ) -> Result<Option<C::Wrapped>, MatrixError>
-        ensures { record { answer = result; matrix = matrix self.new; cells = cells.new } ≡ updated C.Nullable L.EdgeType (matrix self.old) cells.old a b weight }
+        ensures { record { answer = result; matrix = matrix self.new; cells = cells.new } ≡ updated C.Nullable.own L.EdgeType (matrix self.old) cells.old a b weight }
     {
         if self.is_short(cells) {
             return Err(MatrixError::ShortMemory);
@@ -59,7 +59,7 @@ impl<L: EdgeType> AdjacencyMatrix<L> {
         b: u8,
         weight: C::Wrapped,
     ) -> Result<Option<C::Wrapped>, MatrixError>
-        ensures { record { answer = result; matrix = matrix self.new; cells = cells.new } ≡ tried C.Nullable L.EdgeType (matrix self.old) cells.old a b weight }
+        ensures { record { answer = result; matrix = matrix self.new; cells = cells.new } ≡ tried C.Nullable.own L.EdgeType (matrix self.old) cells.old a b weight }
     {
         if self.is_short(cells) {
             return Err(MatrixError::ShortMemory);
@@ -80,7 +80,7 @@ impl<L: EdgeType> AdjacencyMatrix<L> {
         b: u8,
         weight: C::Wrapped,
     ) -> Result<(u8, u8), MatrixError>
-        ensures { record { answer = result; matrix = matrix self.new; cells = cells.new } ≡ added C.Nullable L.EdgeType (matrix self.old) cells.old a b weight }
+        ensures { record { answer = result; matrix = matrix self.new; cells = cells.new } ≡ added C.Nullable.own L.EdgeType (matrix self.old) cells.old a b weight }
     {
         if self.has_edge(cells, a, b)? {
             return Err(MatrixError::EdgePresent);
@@ -96,7 +96,7 @@ impl<L: EdgeType> AdjacencyMatrix<L> {
         a: u8,
         b: u8,
     ) -> Result<Option<C::Wrapped>, MatrixError>
-        ensures { record { answer = result; matrix = matrix self.new; cells = cells.new } ≡ removed C.Nullable L.EdgeType (matrix self.old) cells.old a b }
+        ensures { record { answer = result; matrix = matrix self.new; cells = cells.new } ≡ removed C.Nullable.own L.EdgeType (matrix self.old) cells.old a b }
     {
         if self.is_short(cells) {
             return Err(MatrixError::ShortMemory);
@@ -116,7 +116,7 @@ impl<L: EdgeType> AdjacencyMatrix<L> {
         b: u8,
         weight: C::Wrapped,
     ) -> Result<Option<C::Wrapped>, MatrixError>
-        ensures { record { answer = result; matrix = matrix self.new; cells = cells.new } ≡ replaced C.Nullable L.EdgeType (matrix self.old) cells.old a b weight }
+        ensures { record { answer = result; matrix = matrix self.new; cells = cells.new } ≡ replaced C.Nullable.own L.EdgeType (matrix self.old) cells.old a b weight }
     {
         if !self.has_edge(cells, a, b)? {
             return Ok(None);
@@ -129,7 +129,7 @@ impl<L: EdgeType> AdjacencyMatrix<L> {
 
     // No edges; the capacity stays.
     pub fn clear<C: Nullable>(&mut self, cells: &mut [C]) -> Result<(), MatrixError>
-        ensures { record { answer = result; matrix = matrix self.new; cells = cells.new } ≡ cleared C.Nullable L.EdgeType (matrix self.old) cells.old }
+        ensures { record { answer = result; matrix = matrix self.new; cells = cells.new } ≡ cleared C.Nullable.own L.EdgeType (matrix self.old) cells.old }
     {
         if self.is_short(cells) {
             return Err(MatrixError::ShortMemory);
@@ -149,7 +149,7 @@ impl<L: EdgeType> AdjacencyMatrix<L> {
         cell: C,
     ) -> Option<C::Wrapped>
         requires { short L.EdgeType (matrix self.now) cells.old ≡ false }
-        ensures value { result ≡ reads C.Nullable L.EdgeType (matrix self.now) cells.old a b }
+        ensures value { result ≡ reads C.Nullable.own L.EdgeType (matrix self.now) cells.old a b }
         ensures cells { cells.new ≡ put L.EdgeType (matrix self.now) cells.old a b cell }
     {
         let old = self.read(cells, a, b);
@@ -167,7 +167,7 @@ impl<L: EdgeType> AdjacencyMatrix<L> {
         weight: C::Wrapped,
     ) -> Result<Option<C::Wrapped>, MatrixError>
         requires { short L.EdgeType (matrix self.old) cells.old ≡ false }
-        ensures { record { answer = result; matrix = matrix self.new; cells = cells.new } ≡ writing C.Nullable L.EdgeType (matrix self.old) cells.old a b weight }
+        ensures { record { answer = result; matrix = matrix self.new; cells = cells.new } ≡ writing C.Nullable.own L.EdgeType (matrix self.old) cells.old a b weight }
     {
         let Some(cell) = C::new(weight) else {
             return Err(MatrixError::NullWeight);
@@ -188,7 +188,7 @@ impl<L: EdgeType> AdjacencyMatrix<L> {
         cell: C,
     ) -> Result<Option<C::Wrapped>, MatrixError>
         requires { short L.EdgeType (matrix self.old) cells.old ≡ false }
-        ensures { record { answer = result; matrix = matrix self.new; cells = cells.new } ≡ entering C.Nullable L.EdgeType (matrix self.old) cells.old a b (Some cell) }
+        ensures { record { answer = result; matrix = matrix self.new; cells = cells.new } ≡ entering C.Nullable.own L.EdgeType (matrix self.old) cells.old a b (Some cell) }
     {
         let is_new = self.read(cells, a, b).is_none();
         if is_new {
@@ -206,7 +206,7 @@ impl<L: EdgeType> AdjacencyMatrix<L> {
         cell: C,
     ) -> Result<Option<C::Wrapped>, MatrixError>
         requires { outside (matrix self.old) a b ≡ true }
-        ensures { record { answer = result; matrix = matrix self.new; cells = cells.new } ≡ growing C.Nullable L.EdgeType (matrix self.old) cells.old a b (Some cell) }
+        ensures { record { answer = result; matrix = matrix self.new; cells = cells.new } ≡ growing C.Nullable.own L.EdgeType (matrix self.old) cells.old a b (Some cell) }
     {
         let node_count = Capacity::saturating(cmp::max(a, b) as usize + 1);
         let wanted = self

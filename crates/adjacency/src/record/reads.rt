@@ -49,7 +49,7 @@ impl<L: EdgeType> AdjacencyMatrix<L> {
         a: u8,
         b: u8,
     ) -> Result<Option<C::Wrapped>, MatrixError>
-        ensures { result ≡ got C.Nullable L.EdgeType (matrix self.now) cells.now a b }
+        ensures { result ≡ got C.Nullable.own L.EdgeType (matrix self.now) cells.now a b }
     {
         if self.is_short(cells) {
             return Err(MatrixError::ShortMemory);
@@ -58,7 +58,7 @@ impl<L: EdgeType> AdjacencyMatrix<L> {
     }
 
     pub fn has_edge<C: Nullable>(&self, cells: &[C], a: u8, b: u8) -> Result<bool, MatrixError>
-        ensures { result ≡ had C.Nullable L.EdgeType (matrix self.now) cells.now a b }
+        ensures { result ≡ had C.Nullable.own L.EdgeType (matrix self.now) cells.now a b }
     {
         if self.is_short(cells) {
             return Err(MatrixError::ShortMemory);
@@ -68,7 +68,7 @@ impl<L: EdgeType> AdjacencyMatrix<L> {
 
     // How many cells in use mean a weight.
     pub fn count_weights<C: Nullable>(&self, cells: &[C]) -> Result<usize, MatrixError>
-        ensures { result ≡ counted C.Nullable L.EdgeType (matrix self.now) cells.now }
+        ensures { result ≡ counted C.Nullable.own L.EdgeType (matrix self.now) cells.now }
     {
         if self.is_short(cells) {
             return Err(MatrixError::ShortMemory);
@@ -79,7 +79,7 @@ impl<L: EdgeType> AdjacencyMatrix<L> {
     // What a pair reads.
     pub(super) fn read<C: Nullable>(&self, cells: &[C], a: u8, b: u8) -> Option<C::Wrapped>
         requires { short L.EdgeType (matrix self.now) cells.now ≡ false }
-        ensures { result ≡ reads C.Nullable L.EdgeType (matrix self.now) cells.now a b }
+        ensures { result ≡ reads C.Nullable.own L.EdgeType (matrix self.now) cells.now a b }
     {
         match self.to_edge_position(a, b) {
             Some(position) => weight_at(cells, position),
@@ -112,7 +112,7 @@ pub(super) fn weight_at<C: Nullable>(cells: &[C], position: usize) -> Option<C::
 }
 
 fn count<C: Nullable>(cells: &[C]) -> usize
-    ensures { result ≡ weights C.Nullable cells.now }
+    ensures { result ≡ weights C.Nullable.own cells.now }
 {
     let mut count = 0;
     for cell in cells {

@@ -29,7 +29,7 @@ impl<L: EdgeType> MatrixGraph<L> {
         cells: &mut [C],
         node_capacity: usize,
     ) -> Result<(), MatrixError>
-        ensures { record { answer = result; graph = graph self.new; cells = cells.new } ≡ made C.Nullable L.EdgeType (graph self.old) cells.old node_capacity }
+        ensures { record { answer = result; graph = graph self.new; cells = cells.new } ≡ made C.Nullable.own L.EdgeType (graph self.old) cells.old node_capacity }
     {
         self.edges.with_capacity(cells, node_capacity)?;
         self.nodes.clear();
@@ -38,7 +38,7 @@ impl<L: EdgeType> MatrixGraph<L> {
 
     // Removes all nodes and edges. The capacity stays.
     pub fn clear<C: Nullable>(&mut self, cells: &mut [C]) -> Result<(), MatrixError>
-        ensures { record { answer = result; graph = graph self.new; cells = cells.new } ≡ cleared C.Nullable L.EdgeType (graph self.old) cells.old }
+        ensures { record { answer = result; graph = graph self.new; cells = cells.new } ≡ cleared C.Nullable.own L.EdgeType (graph self.old) cells.old }
     {
         self.edges.clear(cells)?;
         self.nodes.clear();
@@ -53,7 +53,7 @@ impl<L: EdgeType> MatrixGraph<L> {
         b: u8,
         weight: C::Wrapped,
     ) -> Result<Option<C::Wrapped>, MatrixError>
-        ensures { record { answer = result; graph = graph self.new; cells = cells.new } ≡ on_edges (graph self.old) (updated C.Nullable L.EdgeType (graph self.old).matrix cells.old a b weight) }
+        ensures { record { answer = result; graph = graph self.new; cells = cells.new } ≡ on_edges (graph self.old) (updated C.Nullable.own L.EdgeType (graph self.old).matrix cells.old a b weight) }
     {
         self.edges.update_edge(cells, a, b, weight)
     }
@@ -66,7 +66,7 @@ impl<L: EdgeType> MatrixGraph<L> {
         b: u8,
         weight: C::Wrapped,
     ) -> Result<Option<C::Wrapped>, MatrixError>
-        ensures { record { answer = result; graph = graph self.new; cells = cells.new } ≡ on_edges (graph self.old) (updated C.Nullable L.EdgeType (graph self.old).matrix cells.old a b weight) }
+        ensures { record { answer = result; graph = graph self.new; cells = cells.new } ≡ on_edges (graph self.old) (updated C.Nullable.own L.EdgeType (graph self.old).matrix cells.old a b weight) }
     {
         self.update_edge(cells, a, b, weight)
     }
@@ -79,7 +79,7 @@ impl<L: EdgeType> MatrixGraph<L> {
         b: u8,
         weight: C::Wrapped,
     ) -> Result<Option<C::Wrapped>, MatrixError>
-        ensures { record { answer = result; graph = graph self.new; cells = cells.new } ≡ on_edges (graph self.old) (tried C.Nullable L.EdgeType (graph self.old).matrix cells.old a b weight) }
+        ensures { record { answer = result; graph = graph self.new; cells = cells.new } ≡ on_edges (graph self.old) (tried C.Nullable.own L.EdgeType (graph self.old).matrix cells.old a b weight) }
     {
         self.edges.try_update_edge(cells, a, b, weight)
     }
@@ -92,7 +92,7 @@ impl<L: EdgeType> MatrixGraph<L> {
         b: u8,
         weight: C::Wrapped,
     ) -> Result<(u8, u8), MatrixError>
-        ensures { record { answer = result; graph = graph self.new; cells = cells.new } ≡ on_edges (graph self.old) (added C.Nullable L.EdgeType (graph self.old).matrix cells.old a b weight) }
+        ensures { record { answer = result; graph = graph self.new; cells = cells.new } ≡ on_edges (graph self.old) (added C.Nullable.own L.EdgeType (graph self.old).matrix cells.old a b weight) }
     {
         self.edges.add_edge(cells, a, b, weight)
     }
@@ -104,7 +104,7 @@ impl<L: EdgeType> MatrixGraph<L> {
         a: u8,
         b: u8,
     ) -> Result<Option<C::Wrapped>, MatrixError>
-        ensures { record { answer = result; graph = graph self.new; cells = cells.new } ≡ on_edges (graph self.old) (removed C.Nullable L.EdgeType (graph self.old).matrix cells.old a b) }
+        ensures { record { answer = result; graph = graph self.new; cells = cells.new } ≡ on_edges (graph self.old) (removed C.Nullable.own L.EdgeType (graph self.old).matrix cells.old a b) }
     {
         self.edges.try_remove_edge(cells, a, b)
     }
@@ -117,7 +117,7 @@ impl<L: EdgeType> MatrixGraph<L> {
         b: u8,
         weight: C::Wrapped,
     ) -> Result<Option<C::Wrapped>, MatrixError>
-        ensures { record { answer = result; graph = graph self.new; cells = cells.new } ≡ on_edges (graph self.old) (replaced C.Nullable L.EdgeType (graph self.old).matrix cells.old a b weight) }
+        ensures { record { answer = result; graph = graph self.new; cells = cells.new } ≡ on_edges (graph self.old) (replaced C.Nullable.own L.EdgeType (graph self.old).matrix cells.old a b weight) }
     {
         self.edges.replace_edge_weight(cells, a, b, weight)
     }
@@ -128,20 +128,20 @@ impl<L: EdgeType> MatrixGraph<L> {
         a: u8,
         b: u8,
     ) -> Result<Option<C::Wrapped>, MatrixError>
-        ensures { result ≡ got C.Nullable L.EdgeType (graph self.now).matrix cells.now a b }
+        ensures { result ≡ got C.Nullable.own L.EdgeType (graph self.now).matrix cells.now a b }
     {
         self.edges.get_edge_weight(cells, a, b)
     }
 
     pub fn has_edge<C: Nullable>(&self, cells: &[C], a: u8, b: u8) -> Result<bool, MatrixError>
-        ensures { result ≡ had C.Nullable L.EdgeType (graph self.now).matrix cells.now a b }
+        ensures { result ≡ had C.Nullable.own L.EdgeType (graph self.now).matrix cells.now a b }
     {
         self.edges.has_edge(cells, a, b)
     }
 
     // How many cells in use mean a weight.
     pub fn count_weights<C: Nullable>(&self, cells: &[C]) -> Result<usize, MatrixError>
-        ensures { result ≡ counted C.Nullable L.EdgeType (graph self.now).matrix cells.now }
+        ensures { result ≡ counted C.Nullable.own L.EdgeType (graph self.now).matrix cells.now }
     {
         self.edges.count_weights(cells)
     }

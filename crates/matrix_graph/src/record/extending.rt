@@ -17,7 +17,7 @@ impl<L: EdgeType> MatrixGraph<L> {
         edges: &[(u8, u8, C::Wrapped)],
         weight: N,
     ) -> Result<(), ExtendError>
-        ensures { record { answer = result; graph = graph self.new; cells = cells.new; places = places.new } ≡ extended C.Nullable L.EdgeType weight edges.now (graph self.old) cells.old places.old }
+        ensures { record { answer = result; graph = graph self.new; cells = cells.new; places = places.new } ≡ extended C.Nullable.own L.EdgeType weight edges.now (graph self.old) cells.old places.old }
     {
         if self.edges.is_short(cells) || self.nodes.is_short(places) {
             return Err(ExtendError::ShortMemory);
@@ -32,7 +32,7 @@ impl<L: EdgeType> MatrixGraph<L> {
         edges: &[(u8, u8, C::Wrapped)],
         weight: N,
     ) -> Result<(), ExtendError>
-        ensures { record { answer = result; graph = graph self.new; cells = cells.new; places = places.new } ≡ extended_from C.Nullable L.EdgeType weight 0 edges.now (graph self.old) cells.old places.old }
+        ensures { record { answer = result; graph = graph self.new; cells = cells.new; places = places.new } ≡ extended_from C.Nullable.own L.EdgeType weight 0 edges.now (graph self.old) cells.old places.old }
     {
         for number in 0..edges.len() {
             if let Err(refusal) = self.join(cells, places, edges[number], weight) {
@@ -50,7 +50,7 @@ impl<L: EdgeType> MatrixGraph<L> {
         edge: (u8, u8, C::Wrapped),
         weight: N,
     ) -> Result<(u8, u8), MatrixError>
-        ensures { record { answer = result; graph = graph self.new; cells = cells.new; places = places.new } ≡ joined C.Nullable L.EdgeType weight (graph self.old) cells.old places.old edge }
+        ensures { record { answer = result; graph = graph self.new; cells = cells.new; places = places.new } ≡ joined C.Nullable.own L.EdgeType weight (graph self.old) cells.old places.old edge }
     {
         let (a, b, value) = edge;
         self.nodes.populate(places, a, b, weight)?;

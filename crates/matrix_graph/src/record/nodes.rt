@@ -27,7 +27,7 @@ impl<L: EdgeType> MatrixGraph<L> {
         places: &[N],
         a: u8,
     ) -> Result<N, MatrixError>
-        ensures { record { answer = result; graph = graph self.new; cells = cells.new; places = places.now } ≡ removed C.Nullable L.EdgeType (graph self.old) cells.old places.now a }
+        ensures { record { answer = result; graph = graph self.new; cells = cells.new; places = places.now } ≡ removed C.Nullable.own L.EdgeType (graph self.old) cells.old places.now a }
     {
         if self.edges.is_short(cells) {
             return Err(MatrixError::ShortMemory);
@@ -67,7 +67,7 @@ impl<L: EdgeType> MatrixGraph<L> {
     // Empties the cells of (a, i) and (i, a) for each live i.
     fn isolate<C: Nullable>(&self, cells: &mut [C], a: u8)
         requires { short L.EdgeType (graph self.now).matrix cells.old ≡ false }
-        ensures { cells.new ≡ isolated C.Nullable L.EdgeType (graph self.now) a (graph self.now).ids.bound cells.old }
+        ensures { cells.new ≡ isolated C.Nullable.own L.EdgeType (graph self.now) a (graph self.now).ids.bound cells.old }
     {
         for i in 0..self.nodes.node_bound() {
             self.part_if_live(cells, a, i as u8);
@@ -77,7 +77,7 @@ impl<L: EdgeType> MatrixGraph<L> {
     // Empties the cells of (a, b) and (b, a) where b is live.
     fn part_if_live<C: Nullable>(&self, cells: &mut [C], a: u8, b: u8)
         requires { short L.EdgeType (graph self.now).matrix cells.old ≡ false }
-        ensures { cells.new ≡ (if live (graph self.now).ids b then parted C.Nullable L.EdgeType (graph self.now).matrix a b cells.old else cells.old) }
+        ensures { cells.new ≡ (if live (graph self.now).ids b then parted C.Nullable.own L.EdgeType (graph self.now).matrix a b cells.old else cells.old) }
     {
         if self.nodes.is_live(b) {
             self.part(cells, a, b);
@@ -87,7 +87,7 @@ impl<L: EdgeType> MatrixGraph<L> {
     // Empties the cells of (a, b) and (b, a).
     fn part<C: Nullable>(&self, cells: &mut [C], a: u8, b: u8)
         requires { short L.EdgeType (graph self.now).matrix cells.old ≡ false }
-        ensures { cells.new ≡ parted C.Nullable L.EdgeType (graph self.now).matrix a b cells.old }
+        ensures { cells.new ≡ parted C.Nullable.own L.EdgeType (graph self.now).matrix a b cells.old }
     {
         self.edges.replace_cell(cells, a, b, C::default());
         self.edges.replace_cell(cells, b, a, C::default());
