@@ -2,9 +2,9 @@
 #![tactic(auto)]
 
 #[cfg(test)]
-mod cells;
+mod cell_tests;
 #[cfg(test)]
-mod charts;
+mod chart_tests;
 #[cfg(test)]
-mod ids;
-mod layouts;
+mod id_tests;
+mod layout_tests;
