@@ -1,6 +1,6 @@
-use Rattle.std.proofs.Common.{◌≡◌, ◌+◌, ◌-◌, ◌<◌, ◌≤◌, ap, ◌∙◌, arith, rules}
+use Rattle.std.proofs.Common.{◌+◌, ◌<◌, ap, ◌∙◌, rules}
 use Rattle.layouts.specs.Capacities.{size}
-use Rattle.rows.specs.Rows.{grown_below, moves_by}
+use Rattle.rows.specs.Rows.{grown_below}
 use Rattle.rows.proofs.Moves.{moves}
 use Rattle.rows.proofs.Runs.{parted_run, run_moved}
 use Rattle.rows.proofs.growth.move_run.Goals as goal

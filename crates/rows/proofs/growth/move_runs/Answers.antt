@@ -1,7 +1,6 @@
-use Rattle.std.proofs.Common.{ap, rules}
+use Rattle.std.proofs.Common.{ap}
 use Rattle.layouts.specs.Capacities.{size}
 use Rattle.rows.specs.Rows.{grown_below}
-use Rattle.rows.specs.Runs.{Parted}
 use Rattle.rows.proofs.Moves.{moves}
 use Rattle.rows.proofs.Runs.{parted_all}
 use Rattle.rows.proofs.growth.move_runs.Goals as goal

@@ -1,4 +1,4 @@
-use Rattle.std.proofs.Common.{◌≡◌, ◌-◌, ◌<◌, ◌≤◌}
+use Rattle.std.proofs.Common.{◌≡◌}
 use Rattle.layouts.specs.Capacities.{size}
 use Rattle.rows.specs.Rows.{grown, grown_below}
 use Rattle.rows.specs.Runs.{Parted}
