@@ -1,14 +1,13 @@
 -- Cells that hold their weight, and mark nothing by one weight of it.
 use Rattle.std.specs.Prelude.{◌≡◌, Bool, true, false, cond, Some, None, refl}
-use Rattle.std.proofs.Common.{sym, ◌∙◌, ⊎_elim, arith}
-use Rattle.std.proofs.lemmas.Bool.{cases_Bool}
+use Rattle.std.proofs.Common.{sym, ◌∙◌, arith}
 use Rattle.std.proofs.lemmas.Bool.Decides.{nat_tests}
 use Rattle.cells.specs.Laws.{Lawful, CanHold}
 use Rattle.cells.specs.declared.not_zero.NotZero.{NotZero}
 
 -- a weight that no cell means is the mark
 only : {W : Type 0} (is : W → Bool) (w : W) → (CanHold {C = NotZero W} (λ x. cond (is x.0) None (Some x.0)) w → ⊥) → is w ≡ true
-only is w none = ⊎_elim (λ (e : is w ≡ true). e) (λ (e : is w ≡ false). absurd (none (record { 0 = w }, rw e refl))) (cases_Bool (is w))
+only is w none = let h = λ (e : is w ≡ false). none (record { 0 = w }, rw e refl) in grind (arith, nat_tests)
 
 pub marked : {W : Type 0} (is : W → Bool) (z : W) → is z ≡ true → ((w : W) → is w ≡ true → w ≡ z) →
     Lawful {C = NotZero W} {W = W} (λ x. cond (is x.0) None (Some x.0)) (record { 0 = z })

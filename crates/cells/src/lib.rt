@@ -1,7 +1,6 @@
 // What a cell of a chart means: nothing, or one weight.
 #![tactic(auto)]
 
-mod integers;
 mod not_zero;
 mod nullable;
 mod option;

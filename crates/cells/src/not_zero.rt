@@ -5,11 +5,11 @@ ghost use Rattle.std.proofs.Common.{rules};
 
 use crate::{Nullable, Zero};
 
-#[derive(Clone, Copy)]
+#[derive(Clone, Copy, Debug, PartialEq, Eq)]
 pub struct NotZero<T>(T);
 
 impl<T: Zero> Default for NotZero<T> {
-    ghost is_default = { λ x. x ≡ record { 0 = T.Zero.sentinel } };
+    ghost is_default = { λ x. x ≡ record { 0 = T.sentinel } };
 
     fn default() -> NotZero<T> {
         NotZero(T::zero())
@@ -19,26 +19,22 @@ impl<T: Zero> Default for NotZero<T> {
 impl<T: Zero> Nullable for NotZero<T> {
     type Wrapped = T;
 
-    ghost means = { λ x. (if T.Zero.is_sentinel x.0 then None else Some x.0) };
+    ghost means = { λ x. (if T.is_sentinel x.0 then None else Some x.0) };
 
-    ghost empty = { record { 0 = T.Zero.sentinel } };
+    ghost empty = { record { 0 = T.sentinel } };
 
-    ghost holding = { λ w. (if T.Zero.is_sentinel w then None else Some (record { 0 = w })) };
+    ghost holding = { λ w. (if T.is_sentinel w then None else Some (record { 0 = w })) };
 
-    ghost lawful = { marked _ _ T.Zero.sentinel_is T.Zero.sentinel_alone };
+    ghost lawful = { marked _ _ T.sentinel_is T.sentinel_alone };
 
     ghost default_is_empty = { Prim.search rules };
 
     fn new(value: T) -> Option<NotZero<T>> {
-        if value.is_zero() {
-            None
-        } else {
-            Some(NotZero(value))
-        }
+        (!value.is_zero()).then_some(NotZero(value))
     }
 
     fn as_ref(&self) -> Option<&T> {
-        if self.is_null() { None } else { Some(&self.0) }
+        (!self.is_null()).then_some(&self.0)
     }
 
     fn is_null(&self) -> bool {

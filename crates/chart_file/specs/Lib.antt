@@ -1,6 +1,6 @@
 pub mod Text
 pub mod Chart
-pub mod Record
+pub mod Printed
 pub mod Output
 pub mod Laws
 pub mod Turns

@@ -1,15 +1,17 @@
 -- Words for the steps of a run: a line that may have ended or not, and the input after the first line. Assumes nothing.
-use Rattle.std.specs.Prelude.{ℕ, ◌+◌, ◌≤◌, List, [], length, Some, None, Option}
+use Rattle.std.specs.Prelude.{◌≡◌, ℕ, ◌+◌, ◌≤◌, List, [], length, Some, None, Ok, Err, Option, Result}
 use Rattle.std.specs.Borrow.{Bor}
 use Rattle.commands.specs.declared.kind.Kind.{Kind}
-use Rattle.lines.specs.declared.reader.End.{End}
+use Rattle.commands.specs.declared.refusal.Refusal.{Refusal}
+use Rattle.commands.specs.declared.refusal.Refusal.TheVariants.{BadKind}
+use Rattle.lines.specs.declared.reader.TooLong.{TooLong}
 use Rattle.lines.specs.Lines.{Ending, lines}
-use Rattle.lines.specs.States.{ending_by}
+use Rattle.lines.specs.Readers.{ending_by}
 use Rattle.chart_file.specs.Chart.{State, answered}
 use Rattle.chart_file.specs.Text.{reply}
 
 -- a line that is lent
-abbrev pub ending : End (Bor (List ℕ)) → Ending
+abbrev pub ending : Result (Bor (List ℕ)) TooLong → Ending
 ending e = ending_by (λ x. x.now) e
 
 -- where a line has ended: what is printed, the number of the next line and the chart
@@ -25,12 +27,7 @@ abbrev pub next_state : Option Ending → State → State
 next_state None s = s
 next_state (Some e) s = (answered e s).state
 
--- the kind that was read, and the lines of the bytes that are left
-abbrev pub kind_and_lines : Option (Kind × Bor (List ℕ)) → Option (Kind × List Ending)
-kind_and_lines None = None
-kind_and_lines (Some (k, rest)) = Some (k, lines rest.now)
-
--- no more than n bytes are left
-abbrev pub RestWithin : ℕ → Option (Kind × Bor (List ℕ)) → Type 0
-RestWithin n None = Unit {0}
-RestWithin n (Some (k, rest)) = length rest.now ≤ n
+-- what the first line opens: its kind, and the lines of at most n bytes that are left; a line that names no kind is refused so
+abbrev pub Opens : Option (Kind × List Ending) → ℕ → Result (Kind × Bor (List ℕ)) Refusal → Type 0
+Opens o n (Ok (k, rest)) = (o ≡ Some (k, lines rest.now)) × (length rest.now ≤ n)
+Opens o n (Err r) = (o ≡ None) × (r ≡ BadKind)

@@ -1,14 +1,16 @@
-ghost use Rattle.std.specs.Prelude.{◌≡◌, ◌*◌, ◌≤◌, length};
+ghost use Rattle.std.specs.Prelude.{◌≡◌, ◌*◌};
 ghost use Rattle.ids.specs.Calls.{weight};
-ghost use Rattle.sink.specs.Output.{Wrote};
-ghost use Rattle.chart_file.specs.Chart.{fresh, applied, listing, node_lines, node_text};
-ghost use Rattle.chart_file.specs.Record.{state};
+ghost use Rattle.chart_file.specs.Printed.{WroteAtMost};
+ghost use Rattle.chart_file.specs.Turns.{ending};
+ghost use Rattle.chart_file.specs.Chart.{answered, fresh, applied, listing, node_lines, node_text};
 
 use crate::answer::Answer;
 use crate::text::print;
 use commands::{Command, Refusal};
 use ids::IdStorage;
+use lines::TooLong;
 use sink::Sink;
+use std::marker::Model;
 
 // The machines of a panel, each with its label.
 #[derive(Drop)]
@@ -17,9 +19,18 @@ pub struct Chart {
     labels: [u16; 255],
 }
 
+impl Model for Chart {
+    ghost use Rattle.ids.specs.Record as meaning;
+    ghost use Rattle.chart_file.specs.Chart.{State};
+
+    ghost Value = { State };
+
+    ghost view = { λ c. record { ids = meaning.ids c.ids; labels = c.labels } };
+}
+
 impl Chart {
     pub(crate) fn new() -> Chart
-        ensures { state result ≡ fresh }
+        ensures { result ≡ fresh }
     {
         Chart {
             ids: IdStorage::new(),
@@ -27,8 +38,16 @@ impl Chart {
         }
     }
 
-    pub(crate) fn apply(&mut self, command: Command) -> Result<Answer, Refusal>
-        ensures { record { answer = result; state = state self.new } ≡ applied command (state self.old) }
+    // What a line of the file is answered.
+    pub(crate) fn answer(&mut self, line: Result<&[u8], TooLong>) -> Result<Answer, Refusal>
+        ensures { record { answer = result; state = self.new } ≡ answered (ending line.entry) self.old }
+    {
+        let command = Command::try_from(line?)?;
+        self.apply(command)
+    }
+
+    fn apply(&mut self, command: Command) -> Result<Answer, Refusal>
+        ensures { record { answer = result; state = self.new } ≡ applied command self.old }
     {
         match command {
             Command::AddNode(label) => {
@@ -48,16 +67,14 @@ impl Chart {
 
     // The live ids with their labels, rising, and then how many there are.
     pub(crate) fn list(&self, sink: &mut Sink)
-        ensures wrote { Wrote sink.old sink.new (listing (state self.now)) }
-        ensures bound { length (listing (state self.now)) ≤ 16384 }
+        ensures { WroteAtMost 16384 sink.old sink.new (listing self.now) }
     {
         self.list_nodes(sink);
         print(sink, b"end", &[self.ids.len() as u32, 0]);
     }
 
     fn list_nodes(&self, sink: &mut Sink)
-        ensures wrote { Wrote sink.old sink.new (node_lines (state self.now)) }
-        ensures bound { length (node_lines (state self.now)) ≤ 64 * 255 }
+        ensures { WroteAtMost (64 * 255) sink.old sink.new (node_lines self.now) }
     {
         for id in 0..self.ids.node_bound() {
             self.list_node(sink, id as u8);
@@ -65,8 +82,7 @@ impl Chart {
     }
 
     fn list_node(&self, sink: &mut Sink, id: u8)
-        ensures wrote { Wrote sink.old sink.new (node_text (state self.now) id) }
-        ensures bound { length (node_text (state self.now) id) ≤ 64 }
+        ensures { WroteAtMost 64 sink.old sink.new (node_text self.now id) }
     {
         if let Some(label) = self.label(id) {
             print(sink, b"node", &[u32::from(id), u32::from(label)]);
@@ -75,11 +91,8 @@ impl Chart {
 
     // The label of a live id. The places are never fewer than those in use.
     fn label(&self, id: u8) -> Option<u16>
-        ensures { result ≡ weight (state self.now).ids (state self.now).labels id }
+        ensures { result ≡ weight self.now.ids self.now.labels id }
     {
-        match self.ids.get(&self.labels, id) {
-            Ok(label) => label,
-            Err(_) => None,
-        }
+        self.ids.get(&self.labels, id).unwrap_or(None)
     }
 }

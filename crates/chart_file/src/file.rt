@@ -1,18 +1,16 @@
-ghost use Rattle.std.specs.Prelude.{◌≡◌, ◌+◌, ◌*◌, ◌^◌, ◌<◌, ◌≤◌, length};
+ghost use Rattle.std.specs.Prelude.{◌≡◌, ◌*◌, ◌^◌, ◌≤◌, length, ok_or};
+ghost use Rattle.commands.specs.declared.refusal.Refusal.TheVariants.{BadKind};
 ghost use Rattle.lines.specs.Lines.{lines};
-ghost use Rattle.lines.specs.Readers.{lent};
-ghost use Rattle.sink.specs.Output.{Wrote};
-ghost use Rattle.chart_file.specs.Chart.{answered, fresh};
+ghost use Rattle.chart_file.specs.Chart.{fresh};
 ghost use Rattle.chart_file.specs.Laws.{FileLaws};
-ghost use Rattle.chart_file.specs.Output.{answer, kind_of, left_in, opened, opened_by, replies};
-ghost use Rattle.chart_file.specs.Record.{state};
-ghost use Rattle.chart_file.specs.Turns.{RestWithin, ending, kind_and_lines, next_line, next_state, next_text};
+ghost use Rattle.chart_file.specs.Output.{answer, kind_of, left_in, opened, replies};
+ghost use Rattle.chart_file.specs.Printed.{WroteAtMost};
+ghost use Rattle.chart_file.specs.Turns.{Opens, ending};
 
-use crate::answer::Answer;
-use crate::chart::Chart;
+use crate::session::Session;
 use crate::text::print_reply;
-use commands::{Command, Kind, Refusal};
-use lines::{End, LineReader};
+use commands::{Kind, Refusal};
+use lines::{LineReader, TooLong};
 use sink::Sink;
 
 // The most bytes of input that are read.
@@ -36,87 +34,48 @@ fn answer_file(input: &[u8], out: &mut [u8]) -> Option<usize>
     }
     let mut sink = Sink::new(out);
     match open(input) {
-        Some((_, rest)) => answer_all(rest, &mut sink),
-        None => print_reply(&mut sink, 1, Err(Refusal::BadKind)),
+        Ok((_, rest)) => answer_lines(rest, &mut sink),
+        Err(refusal) => print_reply(&mut sink, 1, Err(refusal)),
     }
     Some(sink.len())
 }
 
 // The kind that the first line names, and what follows that line.
-fn open(input: &[u8]) -> Option<(Kind, &[u8])>
-    ensures value { kind_and_lines result ≡ opened (lines input.now) }
-    ensures rest { RestWithin (length input.now) result }
+fn open(input: &[u8]) -> Result<(Kind, &[u8]), Refusal>
+    ensures { Opens (opened (lines input.now)) (length input.now) result }
 {
     let mut reader = LineReader::new();
-    for (i, b) in input.iter().enumerate() {
+    let mut bytes = input.iter();
+    while let Some(b) = bytes.next() {
         reader.step(*b);
         if let Some(line) = reader.completed() {
-            return open_by(line, &input[i + 1..]);
+            return Ok((read_kind(line)?, bytes.as_slice()));
         }
     }
-    match reader.finished() {
-        Some(line) => open_by(line, &[]),
-        None => None,
-    }
+    let line = reader.finished().ok_or(Refusal::BadKind)?;
+    Ok((read_kind(line)?, &[]))
 }
 
-fn open_by<'a>(line: End<&[u8]>, rest: &'a [u8]) -> Option<(Kind, &'a [u8])>
-    ensures value { kind_and_lines result ≡ opened_by (kind_of (ending line.entry)) (lines rest.now) }
-    ensures rest { RestWithin (length rest.now) result }
-{
-    let kind = read_kind(line)?;
-    Some((kind, rest))
-}
-
-fn read_kind(line: End<&[u8]>) -> Option<Kind>
-    ensures { result ≡ kind_of (ending line.entry) }
+fn read_kind(line: Result<&[u8], TooLong>) -> Result<Kind, Refusal>
+    ensures { result ≡ ok_or (kind_of (ending line.entry)) BadKind }
 {
     match line {
-        End::Whole(bytes) => Kind::read(bytes),
-        End::Long => None,
+        Ok(bytes) => Kind::try_from(bytes),
+        Err(TooLong) => Err(Refusal::BadKind),
     }
 }
 
 // Answers each line after the first, and lists the chart.
-fn answer_all(input: &[u8], sink: &mut Sink)
+fn answer_lines(input: &[u8], sink: &mut Sink)
     requires { length input.now ≤ 65536 }
-    ensures wrote { Wrote sink.old sink.new (replies 2 (lines input.now) fresh) }
-    ensures bound { length (replies 2 (lines input.now) fresh) ≤ 2 ^ 32 }
+    ensures { WroteAtMost (2 ^ 32) sink.old sink.new (replies 2 (lines input.now) fresh) }
 {
-    let mut chart = Chart::new();
     let mut reader = LineReader::new();
-    let mut line = 2;
+    let mut session = Session::new();
     for b in input {
         reader.step(*b);
-        line = answer_if(reader.completed(), line, &mut chart, sink);
+        session.answer_ended(reader.completed(), sink);
     }
-    answer_if(reader.finished(), line, &mut chart, sink);
-    chart.list(sink);
-}
-
-// Answers a line if there is one, and answers the number of the next.
-fn answer_if(ended: Option<End<&[u8]>>, line: u32, chart: &mut Chart, sink: &mut Sink) -> u32
-    requires { line < 100000 }
-    ensures line { result ≡ next_line line (lent ended.entry) }
-    ensures chart { state chart.new ≡ next_state (lent ended.entry) (state chart.old) }
-    ensures wrote { Wrote sink.old sink.new (next_text line (lent ended.entry) (state chart.old)) }
-    ensures bound { length (next_text line (lent ended.entry) (state chart.old)) ≤ 64 }
-{
-    match ended {
-        Some(end) => {
-            let answer = chart_answer(end, chart);
-            print_reply(sink, line, answer);
-            line + 1
-        }
-        None => line,
-    }
-}
-
-fn chart_answer(end: End<&[u8]>, chart: &mut Chart) -> Result<Answer, Refusal>
-    ensures { record { answer = result; state = state chart.new } ≡ answered (ending end.entry) (state chart.old) }
-{
-    match end {
-        End::Whole(bytes) => chart.apply(Command::read(bytes)?),
-        End::Long => Err(Refusal::LineLong),
-    }
+    session.answer_ended(reader.finished(), sink);
+    session.list(sink);
 }

@@ -4,6 +4,7 @@
 mod answer;
 mod chart;
 mod file;
+mod session;
 mod text;
 
 pub use file::{INPUT_MAX, run};

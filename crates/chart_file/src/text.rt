@@ -1,5 +1,5 @@
-ghost use Rattle.std.specs.Prelude.{◌+◌, ◌*◌, ◌≤◌, map, length, decimal};
-ghost use Rattle.sink.specs.Output.{Wrote};
+ghost use Rattle.std.specs.Prelude.{◌+◌, ◌*◌, map, length, decimal};
+ghost use Rattle.chart_file.specs.Printed.{WroteAtMost};
 ghost use Rattle.chart_file.specs.Text.{printed, reply};
 
 use crate::answer::Answer;
@@ -8,21 +8,19 @@ use sink::Sink;
 
 // A word and numbers, parted by commas.
 pub(crate) fn print(sink: &mut Sink, word: &[u8], numbers: &[u32])
-    ensures wrote { Wrote sink.old sink.new (printed word.now (map decimal numbers.now)) }
-    ensures bound { length (printed word.now (map decimal numbers.now)) ≤ length word.now + 11 * length numbers.now + 1 }
+    ensures { WroteAtMost (length word.now + 11 * length numbers.now + 1) sink.old sink.new (printed word.now (map decimal numbers.now)) }
 {
     sink.text(word);
     for n in numbers {
         sink.byte(b',');
-        sink.decimal(*n);
+        sink.number(*n);
     }
     sink.byte(b'\n');
 }
 
 // What the line with this number is answered.
 pub(crate) fn print_reply(sink: &mut Sink, line: u32, answer: Result<Answer, Refusal>)
-    ensures wrote { Wrote sink.old sink.new (reply line answer) }
-    ensures bound { length (reply line answer) ≤ 64 }
+    ensures { WroteAtMost 64 sink.old sink.new (reply line answer) }
 {
     match answer {
         Ok(Answer::Id(id)) => print(sink, b"id", &[u32::from(id)]),

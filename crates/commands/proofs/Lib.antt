@@ -1,3 +1,1 @@
-pub mod Naming
 pub mod Parting
-pub mod Shapes

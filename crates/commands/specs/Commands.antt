@@ -1,5 +1,5 @@
 -- What a line of a chart file asks for. Assumes nothing.
-use Rattle.std.specs.Prelude.{ℕ, ◌+◌, min, cond, List, [], ◌∷◌, length, ℤ, pos, Some, None, Ok, Err, codes, Option, Result, ◌==◌}
+use Rattle.std.specs.Prelude.{◌≡◌, ℕ, ◌+◌, ◌-◌, ◌^◌, neg_ℤ, MatchResult, min, cond, List, [], ◌∷◌, length, ℤ, pos, Some, None, Ok, Err, codes, Option, Result, ◌==◌}
 use Rattle.std.specs.Int.Signed.{mag}
 use Rattle.numbers.specs.Fields.{number_field}
 use Rattle.std.specs.Str.{bytes_eq}
@@ -36,6 +36,13 @@ id_at at f = mapped mag (number_at at (pos 0) (pos 255) f)
 
 abbrev pub label_at : ℕ → List ℕ → Result ℕ Refusal
 label_at at f = mapped mag (number_at at (pos 0) (pos 65535) f)
+
+-- r is what a conversion makes of the number of 32 bits in a field, where gives z q says that it may answer q at z; field at is told where there is no such number, and where the answer is an error
+abbrev pub NumberBy : {T E : Type 0} → (ℤ → Result T E → Type 0) → ℕ → List ℕ → Result T Refusal → Type 0
+NumberBy {T} {E} gives at f r =
+    MatchResult r
+    (λ x. (z : ℤ) × (number_field (neg_ℤ (pos (2 ^ 31))) (pos (2 ^ 31 - 1)) f ≡ Some z) × gives z (Ok x))
+    (λ e. (e ≡ BadNumber at) × ((z : ℤ) → number_field (neg_ℤ (pos (2 ^ 31))) (pos (2 ^ 31 - 1)) f ≡ Some z → (d : E) × gives z (Err d)))
 
 -- a letter is field 1, and n fields follow it; else the first missing or surplus field is told
 abbrev pub expected : ℕ → List (List ℕ) → Result (Unit {0}) Refusal

@@ -1,5 +1,6 @@
 -- A line cut at its commas. Assumes nothing.
-use Rattle.std.specs.Prelude.{◌≡◌, ℕ, ◌+◌, ◌<◌, cond, List, [], ◌∷◌, length, take, drop, Some, None, Option, ◌==◌}
+use Rattle.std.specs.Prelude.{ℕ, cond, List, [], ◌∷◌, Some, None, Option, ◌==◌}
+use Rattle.std.specs.Borrow.{Bor}
 
 abbrev pub longer : ℕ → List (List ℕ) → List (List ℕ)
 longer b [] = (b ∷ []) ∷ []
@@ -19,7 +20,7 @@ abbrev pub others : List (List ℕ) → List (List ℕ)
 others [] = []
 others (f ∷ fs) = fs
 
--- the first comma, if there is one, ends the first field
-abbrev pub Parted : List ℕ → Option ℕ → Type 0
-Parted bytes None = fields bytes ≡ bytes ∷ []
-Parted bytes (Some at) = (at < length bytes) × (fields bytes ≡ take at bytes ∷ fields (drop (at + 1) bytes))
+-- what is left of a line has at least one field, if it is empty too; where nothing is left, there is none
+abbrev pub fields_of : Option (Bor (List ℕ)) → List (List ℕ)
+fields_of None = []
+fields_of (Some bytes) = fields bytes.now

@@ -1,4 +1,3 @@
 pub mod Fields
-pub mod Left
 pub mod Refusals
 pub mod Commands

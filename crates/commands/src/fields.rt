@@ -1,57 +1,52 @@
-ghost use Rattle.std.specs.Prelude.{◌≡◌, ◌+◌, ◌^◌, ◌<◌, [], ◌∷◌, length, ◌≤ℤ◌, IfOk};
-ghost use Rattle.commands.specs.Commands.{expected, number_at, id_at, label_at};
-ghost use Rattle.commands.specs.Fields.{fields, first, others, Parted};
-ghost use Rattle.commands.specs.Left.{left, fields_of};
+ghost use Rattle.std.specs.Prelude.{◌≡◌, ◌<◌, ◌==◌, [], length, position};
+ghost use Rattle.std.specs.Iterator.{YieldsFirstBy, item_count};
+ghost use Rattle.commands.specs.Commands.{expected, NumberBy};
+ghost use Rattle.commands.specs.Fields.{fields, first, others};
 
 use crate::refusal::Refusal;
 use numbers::read_number;
+use std::marker::Model;
 
 // The fields of a line that are yet to be read.
 #[derive(Drop)]
-pub struct Fields<'a> {
+pub(crate) struct Fields<'a> {
     rest: Option<&'a [u8]>,
 }
 
+impl<'a> Model for Fields<'a> {
+    ghost use Rattle.std.specs.Prelude.{ℕ, List};
+
+    ghost Value = { List (List ℕ) };
+
+    ghost use Rattle.commands.specs.Fields.{fields_of};
+
+    ghost view = { λ f. fields_of f.rest };
+}
+
 impl<'a> Fields<'a> {
-    pub(crate) fn new(rest: &'a [u8]) -> Fields<'a>
-        ensures { left result ≡ fields rest.now }
+    pub(crate) fn new(line: &'a [u8]) -> Fields<'a>
+        ensures { result ≡ fields line.now }
     {
-        Fields { rest: Some(rest) }
+        Fields { rest: Some(line) }
     }
 
     pub(crate) fn none() -> Fields<'a>
-        ensures { left result ≡ [] }
+        ensures { result ≡ [] }
     {
         Fields { rest: None }
     }
 
     // How many fields are left.
     pub(crate) fn len(&self) -> usize
-        ensures { result ≡ length (left self.now) }
+        ensures { result ≡ length self.now }
     {
-        match self.rest {
-            Some(bytes) => commas(bytes) + 1,
-            None => 0,
-        }
-    }
-
-    // The next field, or an empty one where none is left.
-    pub(crate) fn next(&mut self) -> &'a [u8]
-        ensures value { result.now ≡ first (left self.old) }
-        ensures after { left self.new ≡ others (left self.old) }
-    {
-        let Some(bytes) = self.rest else {
-            return &[];
-        };
-        let (field, rest) = split(bytes);
-        self.rest = rest;
-        field
+        self.rest.map_or(0, count)
     }
 
     // That just so many fields are left; else the first missing or surplus field, where these begin at field 2.
     pub(crate) fn expect(&self, wanted: usize) -> Result<(), Refusal>
         requires { wanted < 100 }
-        ensures { result ≡ expected wanted (left self.now) }
+        ensures { result ≡ expected wanted self.now }
     {
         let found = self.len();
         if found != wanted {
@@ -60,63 +55,49 @@ impl<'a> Fields<'a> {
         Ok(())
     }
 
-    // The next field's number, from `low` to `high`; `at` is the field's own number.
-    pub(crate) fn number(&mut self, at: u8, low: i32, high: i32) -> Result<i32, Refusal>
-        ensures value { result ≡ number_at at low high (first (left self.old)) }
-        ensures after { left self.new ≡ others (left self.old) }
-        ensures within { IfOk result (λ z. (low ≤ℤ z) × (z ≤ℤ high)) }
+    // The number in the next field, as a `T`; `at` is the field's own number.
+    pub(crate) fn number<T: TryFrom<i32, Error: Drop>>(&mut self, at: u8) -> Result<T, Refusal>
+        ensures value { NumberBy T.try_from_gives at (first self.old) result }
+        ensures after { self.new ≡ others self.old }
     {
-        read_number(self.next(), low, high).ok_or(Refusal::BadNumber(at))
-    }
-
-    pub(crate) fn id(&mut self, at: u8) -> Result<u8, Refusal>
-        ensures value { result ≡ id_at at (first (left self.old)) }
-        ensures after { left self.new ≡ others (left self.old) }
-    {
-        let number = self.number(at, 0, 255)?;
-        Ok(number as u8)
-    }
-
-    pub(crate) fn label(&mut self, at: u8) -> Result<u16, Refusal>
-        ensures value { result ≡ label_at at (first (left self.old)) }
-        ensures after { left self.new ≡ others (left self.old) }
-    {
-        let number = self.number(at, 0, 65535)?;
-        Ok(number as u16)
+        let refusal = Refusal::BadNumber(at);
+        let field = self.next().ok_or(refusal)?;
+        let number = read_number(field, i32::MIN, i32::MAX).ok_or(refusal)?;
+        T::try_from(number).map_err(|_| refusal)
     }
 }
 
-// The first field, and what follows its comma.
-fn split(bytes: &[u8]) -> (&[u8], Option<&[u8]>)
-    ensures { fields bytes.now ≡ result.0.now ∷ fields_of result.1 }
-{
-    match comma(bytes) {
-        Some(at) => (&bytes[0..at], Some(&bytes[at + 1..])),
-        None => (bytes, None),
-    }
-}
+impl<'a> Iterator for Fields<'a> {
+    type Item = &'a [u8];
 
-fn commas(bytes: &[u8]) -> usize
-    ensures count { result + 1 ≡ length (fields bytes.now) }
-    ensures bound { result < 2 ^ 63 }
-{
-    let mut commas = 0;
-    for b in bytes {
-        if *b == b',' {
-            commas += 1;
+    ghost next_gives = { YieldsFirstBy (λ f. f.now) (λ s. s) };
+
+    ghost remaining = { item_count (λ s. s) };
+
+    #[tactic(auto, using(crate::proofs::Parting::cuts))]
+    fn next(&mut self) -> Option<&'a [u8]> {
+        let bytes = self.rest?;
+        match comma(bytes) {
+            Some(at) => {
+                self.rest = Some(&bytes[at + 1..]);
+                Some(&bytes[..at])
+            }
+            None => self.rest.take(),
         }
     }
-    commas
+}
+
+// How many fields some bytes hold.
+#[tactic(auto, using(crate::proofs::Parting::fields_count))]
+fn count(bytes: &[u8]) -> usize
+    ensures { result ≡ length (fields bytes.now) }
+{
+    bytes.iter().filter(|b| **b == b',').count() + 1
 }
 
 // Where the first comma stands.
 fn comma(bytes: &[u8]) -> Option<usize>
-    ensures { Parted bytes.now result }
+    ensures { result ≡ position (λ b. b == 44) bytes.now }
 {
-    for (i, b) in bytes.iter().enumerate() {
-        if *b == b',' {
-            return Some(i);
-        }
-    }
-    None
+    bytes.iter().position(|b| *b == b',')
 }

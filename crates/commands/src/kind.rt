@@ -1,31 +1,30 @@
-ghost use Rattle.std.specs.Prelude.{◌≡◌};
-ghost use Rattle.std.specs.Str.{bytes_eq};
+ghost use Rattle.std.specs.Prelude.{◌≡◌, ok_or};
 ghost use Rattle.commands.specs.Commands.{kind};
+ghost use Rattle.commands.specs.declared.refusal.Refusal.TheVariants.{BadKind};
+
+use crate::refusal::Refusal;
 
 // What a chart keeps: staggers in a square, or ties in a triangle.
-#[derive(Clone, Copy)]
+#[derive(Clone, Copy, Debug, PartialEq, Eq)]
 pub enum Kind {
     Square,
     Triangle,
 }
 
-impl Kind {
-    // The kind that the first line of a chart file names.
-    pub fn read(line: &[u8]) -> Option<Kind>
-        ensures { result ≡ kind line.now }
-    {
-        if same(line, b"chart,square") {
-            return Some(Kind::Square);
-        }
-        if same(line, b"chart,triangle") {
-            return Some(Kind::Triangle);
-        }
-        None
-    }
-}
+// The kind that the first line of a chart file names.
+impl TryFrom<&[u8]> for Kind {
+    type Error = Refusal;
 
-fn same(a: &[u8], b: &[u8]) -> bool
-    ensures { result ≡ bytes_eq a.now b.now }
-{
-    a == b
+    ghost try_from_gives = { λ line r. r ≡ ok_or (kind line.now) BadKind };
+
+    fn try_from(line: &[u8]) -> Result<Kind, Refusal> {
+        // By `==`: the goals that a `match` on byte strings leaves know of lengths alone.
+        if line == b"chart,square".as_slice() {
+            Ok(Kind::Square)
+        } else if line == b"chart,triangle".as_slice() {
+            Ok(Kind::Triangle)
+        } else {
+            Err(Refusal::BadKind)
+        }
+    }
 }

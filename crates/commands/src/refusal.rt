@@ -1,11 +1,12 @@
 ghost use Rattle.std.specs.Prelude.{◌≡◌};
 ghost use Rattle.commands.specs.Refusals.{field, number};
-ghost use Rattle.commands.specs.declared.refusal.Refusal.TheVariants.{Graph};
+ghost use Rattle.commands.specs.declared.refusal.Refusal.TheVariants.{Graph, LineLong};
 
 use errors::MatrixError;
+use lines::TooLong;
 
 // Why a line of a chart file is refused.
-#[derive(Clone, Copy)]
+#[derive(Clone, Copy, Debug, PartialEq, Eq)]
 pub enum Refusal {
     // The line has more than 40 bytes.
     LineLong,
@@ -54,6 +55,14 @@ impl From<MatrixError> for Refusal {
     ghost from_gives = { λ e r. r ≡ Graph e };
 
     fn from(refused: MatrixError) -> Refusal {
-        Refusal::Graph(refused)
+        Self::Graph(refused)
+    }
+}
+
+impl From<TooLong> for Refusal {
+    ghost from_gives = { λ e r. r ≡ LineLong };
+
+    fn from(_: TooLong) -> Refusal {
+        Self::LineLong
     }
 }

@@ -1,6 +1,6 @@
-pub mod Stack
+pub mod Stacked
 pub mod Live
-pub mod Kept
+pub mod Vacating
 pub mod Adding
 pub mod Series
 pub mod Populating

@@ -1,4 +1,5 @@
 pub mod Ids
+pub mod Stack
 pub mod Record
 pub mod Calls
 pub mod Series

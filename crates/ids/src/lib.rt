@@ -2,5 +2,6 @@
 #![tactic(auto)]
 
 mod record;
+mod stack;
 
 pub use record::IdStorage;

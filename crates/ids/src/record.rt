@@ -1,21 +1,23 @@
-ghost use Rattle.std.specs.Prelude.{◌≡◌, ℕ, ◌<◌, ◌≤◌, true, false, slice_index_or};
-ghost use Rattle.ids.specs.Ids.{ids_of, sound, live, stacked};
+ghost use Rattle.std.specs.Prelude.{◌≡◌, ℕ, ◌<◌, ◌≤◌, true, false, length, slice_index_or};
+ghost use Rattle.ids.specs.Ids.{sound, live};
+ghost use Rattle.ids.specs.Stack.{stack};
 
 mod changes;
 mod populate;
 mod reads;
 
+use crate::stack::Stack;
+
 // All of its memory is fixed: no call allocates.
-#[derive(Clone, Copy)]
+#[derive(Clone, Copy, Debug)]
 pub struct IdStorage {
     upper_bound: usize,
-    // the stack of vacated ids, in the first `removed` entries
-    removed_ids: [u8; 255],
-    removed: usize,
+    // the vacated ids
+    removed_ids: Stack,
     // whether each id is live, so that no call walks the stack
     is_live: [bool; 256],
     ghost bounded: { upper_bound ≤ 255 },
-    ghost fewer: { removed ≤ upper_bound },
-    ghost once: { sound upper_bound (stacked removed removed_ids) ≡ true },
-    ghost table: { (k : ℕ) → k < 256 → slice_index_or is_live k false ≡ live (ids_of upper_bound removed removed_ids) k },
+    ghost fewer: { length (stack removed_ids) ≤ upper_bound },
+    ghost once: { sound upper_bound (stack removed_ids) ≡ true },
+    ghost table: { (k : ℕ) → k < 256 → slice_index_or is_live k false ≡ live (record { bound = upper_bound; stack = stack removed_ids }) k },
 }

@@ -1,1 +1,2 @@
 pub mod Doubling
+pub mod RowSearch

@@ -1,15 +1,14 @@
 // The square: a cell for each pair, the mirrored one apart.
 ghost use Rattle.std.specs.Prelude.{◌≡◌};
-ghost use Rattle.layouts.specs.Capacities.{size};
 ghost use Rattle.layouts.specs.Square.{doubled, named, place, total, wide};
-ghost use Rattle.layouts.specs.SquareLemmas as Square;
+ghost use Rattle.layouts.specs.SquareLemmas.{every_pair, growing, placing};
 
 use crate::{Capacity, EdgeType};
 use std::cmp;
 
 const MIN_CAPACITY: usize = 4;
 
-#[derive(Clone, Copy)]
+#[derive(Clone, Copy, Debug, Default, PartialEq, Eq)]
 pub struct Directed;
 
 impl EdgeType for Directed {
@@ -21,11 +20,11 @@ impl EdgeType for Directed {
 
     ghost wide = { wide };
 
-    ghost every_pair = { Square.every_pair };
+    ghost every_pair = { every_pair };
 
-    ghost placing = { Square.placing };
+    ghost placing = { placing };
 
-    ghost growing = { Square.growing };
+    ghost growing = { growing };
 
     fn cell_count(self, capacity: Capacity) -> usize {
         let width = capacity.get();
@@ -34,7 +33,7 @@ impl EdgeType for Directed {
 
     fn to_edge_position(self, capacity: Capacity, row: u8, column: u8) -> Option<usize> {
         let width = capacity.get();
-        let (row, column) = (row as usize, column as usize);
+        let (row, column) = (usize::from(row), usize::from(column));
         if cmp::max(row, column) >= width {
             return None;
         }
@@ -58,7 +57,7 @@ impl EdgeType for Directed {
 
 // The least power of two that is at least so many.
 fn least_power(node_count: Capacity) -> usize
-    ensures { result ≡ doubled 8 1 (size node_count) }
+    ensures { result ≡ doubled 8 1 node_count }
 {
     node_count.get().next_power_of_two()
 }

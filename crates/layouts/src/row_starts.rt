@@ -6,11 +6,11 @@ pub(crate) fn row_start(row: usize) -> usize
     requires { row ≤ 256 }
     ensures { result ≡ start row }
 {
-    row_starts()[row] as usize
+    usize::from(row_starts()[row])
 }
 
 // The whole table, computed.
-fn row_starts() -> &'static [u16; 257]
+pub(crate) fn row_starts() -> &'static [u16; 257]
     ensures { result.now ≡ starts 0 257 }
 {
     &ROW_STARTS

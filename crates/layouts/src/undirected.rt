@@ -1,14 +1,13 @@
 // The triangle: one cell for a pair and its mirror.
 ghost use Rattle.std.specs.Prelude.{◌≡◌, ℕ, ◌+◌, ◌<◌, ◌≤◌, Some};
-ghost use Rattle.layouts.specs.Capacities.{size};
 ghost use Rattle.layouts.specs.Triangle.{named, place, row, start, total, wide};
-ghost use Rattle.layouts.specs.TriangleLemmas as Triangle;
+ghost use Rattle.layouts.specs.TriangleLemmas.{every_pair, growing, placing};
 
-use crate::row_starts::row_start;
+use crate::row_starts::{row_start, row_starts};
 use crate::{Capacity, EdgeType};
 use std::cmp;
 
-#[derive(Clone, Copy)]
+#[derive(Clone, Copy, Debug, Default, PartialEq, Eq)]
 pub struct Undirected;
 
 impl EdgeType for Undirected {
@@ -20,19 +19,19 @@ impl EdgeType for Undirected {
 
     ghost wide = { wide };
 
-    ghost every_pair = { Triangle.every_pair };
+    ghost every_pair = { every_pair };
 
-    ghost placing = { Triangle.placing };
+    ghost placing = { placing };
 
-    ghost growing = { Triangle.growing };
+    ghost growing = { growing };
 
     fn cell_count(self, capacity: Capacity) -> usize {
         row_start(capacity.get())
     }
 
     fn to_edge_position(self, capacity: Capacity, row: u8, column: u8) -> Option<usize> {
-        let larger = cmp::max(row, column) as usize;
-        let smaller = cmp::min(row, column) as usize;
+        let larger = usize::from(cmp::max(row, column));
+        let smaller = usize::from(cmp::min(row, column));
         if larger >= capacity.get() {
             return None;
         }
@@ -40,7 +39,7 @@ impl EdgeType for Undirected {
     }
 
     fn to_pair(self, capacity: Capacity, position: usize) -> Option<(u8, u8)>
-        ensures value { result ≡ named (size capacity) position }
+        ensures value { result ≡ named capacity position }
         ensures lower { (row column : ℕ) → result ≡ Some (row, column) → column ≤ row }
     {
         if position >= self.cell_count(capacity) {
@@ -56,23 +55,14 @@ impl EdgeType for Undirected {
     }
 }
 
-// The row of a cell below the count, found by halving.
+// The row of a cell below the count: the last that starts at the cell or before.
 fn row_of(capacity: Capacity, position: usize) -> usize
-    requires { position < total (size capacity) }
-    ensures value { result ≡ row (size capacity) position }
+    requires { position < total capacity }
+    ensures value { result ≡ row capacity position }
     ensures before { start result ≤ position }
     ensures after { position ≤ start result + result }
-    ensures within { result < size capacity }
+    ensures within { result < capacity }
 {
-    let mut low = 0;
-    let mut high = capacity.get();
-    while high - low > 1 {
-        let middle = (low + high) / 2;
-        if row_start(middle) <= position {
-            low = middle;
-        } else {
-            high = middle;
-        }
-    }
-    low
+    let starts = &row_starts()[..capacity.get()];
+    starts.partition_point(|&start| usize::from(start) <= position) - 1
 }

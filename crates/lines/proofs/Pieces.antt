@@ -1,5 +1,5 @@
 -- The pieces of an input are how it is cut, and the only way.
-use Rattle.std.proofs.Common.{◌≡◌, ℕ, Bool, true, false, eqb, List, [], ◌∷◌, ◌++◌, sym, refl, ap, ◌∙◌, subst, append_assoc}
+use Rattle.std.proofs.Common.{◌≡◌, ℕ, Bool, true, false, eqb, List, [], ◌∷◌, ◌++◌, refl, subst, append_assoc}
 use Rattle.std.specs.List.{flat_map, AllByRecursion}
 use Rattle.std.proofs.lemmas.Bool.{eqb-true}
 use Rattle.lines.specs.Lines.{Cut, Plain, ended_piece, pieces, unless_empty}
@@ -16,12 +16,11 @@ pieces_rest (b ∷ c ∷ p) h = rw (h.0, pieces_rest (c ∷ p) h.1)
 
 pieces_joined : (ps : List (List ℕ)) (rest : List ℕ) → AllByRecursion Plain ps → pieces (flat_map ended_piece ps ++ rest) ≡ ps ++ pieces rest
 pieces_joined [] rest h = refl
-pieces_joined (p ∷ ps) rest h = simp append_assoc (pieces_ended p (flat_map ended_piece ps ++ rest) h.0 ∙ ap (λ qs. p ∷ qs) (pieces_joined ps rest h.1))
+pieces_joined (p ∷ ps) rest h = simp append_assoc (rw (pieces_ended p (flat_map ended_piece ps ++ rest) h.0, pieces_joined ps rest h.1))
 
 -- no other pieces serve
 pub pieces_only : (bs : List ℕ) (ps : List (List ℕ)) → Cut bs ps → ps ≡ pieces bs
-pieces_only bs ps c =
-    c.are ∙ sym (ap pieces c.made ∙ pieces_joined c.before c.rest c.plain_before ∙ ap (λ qs. c.before ++ qs) (pieces_rest c.rest c.plain_rest))
+pieces_only bs ps c = rw (c.are, c.made, pieces_joined c.before c.rest c.plain_before, pieces_rest c.rest c.plain_rest)
 
 -- every input is cut in some way
 some_cut : (bs : List ℕ) → (ps : List (List ℕ)) × Cut bs ps

@@ -1,16 +1,15 @@
--- What a reader stands for, and what it lends. Assumes nothing.
+-- What a reader lends. Assumes nothing.
 use Rattle.std.specs.Borrow.{Bor}
-use Rattle.std.specs.Prelude.{ℕ, List, Some, None, Option}
-use Rattle.lines.specs.declared.reader.End.{End}
-use Rattle.lines.specs.declared.reader.LineReader.{LineReader}
-use Rattle.lines.specs.Lines.{Ending, Reading}
-use Rattle.lines.specs.States.{ending_by, meant}
+use Rattle.std.specs.Prelude.{ℕ, List, Some, None, Option, Result, Ok, Err}
+use Rattle.lines.specs.declared.reader.TooLong.{TooLong}
+use Rattle.lines.specs.Lines.{Ending, long, whole}
 
--- the state of the machine that a reader is in
-abbrev pub reading : LineReader → Reading
-reading r = meant r.state
+-- a line that has ended, where f has the bytes of a whole one
+abbrev pub ending_by : {X : Type 0} → (X → List ℕ) → Result X TooLong → Ending
+ending_by f (Ok l) = whole (f l)
+ending_by f (Err e) = long
 
 -- the line that is lent, if any
-abbrev pub lent : Option (End (Bor (List ℕ))) → Option Ending
+abbrev pub lent : Option (Result (Bor (List ℕ)) TooLong) → Option Ending
 lent None = None
 lent (Some e) = Some (ending_by (λ x. x.now) e)

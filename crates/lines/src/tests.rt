@@ -1,19 +1,15 @@
 // Lines at the limit, and bytes that other readers of lines treat apart.
 ghost use Rattle.std.specs.Prelude.{◌≡◌, is_some};
 
-use crate::{End, LineReader};
+use crate::{LineReader, TooLong};
 
 // stands for the size of a line that is too long
 const TOO_LONG: usize = 99;
 
-fn size(line: Option<End<&[u8]>>) -> Option<usize>
+fn size(line: Option<Result<&[u8], TooLong>>) -> Option<usize>
     ensures { is_some result ≡ is_some line.entry }
 {
-    match line {
-        Some(End::Whole(bytes)) => Some(bytes.len()),
-        Some(End::Long) => Some(TOO_LONG),
-        None => None,
-    }
+    line.map(|line| line.map_or(TOO_LONG, <[u8]>::len))
 }
 
 #[test]

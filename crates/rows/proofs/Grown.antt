@@ -1,7 +1,6 @@
 -- What growing leaves: the length, what each pair held, and the cells past those in use. Assumes nothing.
-use Rattle.std.proofs.Common.{◌≡◌, ℕ, ◌+◌, ◌-◌, ◌<◌, ◌≤◌, List, map, length, get_or, drop, Some, ap, ◌∙◌, arith, length-append, length-drop}
-use Rattle.std.specs.List.{range_with_len}
-use Rattle.std.proofs.lemmas.List.{drop_at, get_or_append_left, get_or-append_right, get_or-drop}
+use Rattle.std.proofs.Common.{◌≡◌, ℕ, ◌<◌, ◌≤◌, List, length, get_or, drop, Some, arith, rules}
+use Rattle.std.proofs.lemmas.List.{drop_at, places}
 use Rattle.std.proofs.lemmas.List.FromFn.{get_or-map-range_with_len, length-map-range_with_len}
 use Rattle.layouts.specs.Laws.{Placing}
 use Rattle.rows.specs.Kinds.{Kind, Shape}
@@ -10,22 +9,17 @@ use Rattle.rows.specs.Rows.{grown, grown_below, held, carried}
 pub length-grown_below : {C W L : Type 0} (kind : Kind C W) (shape : Shape L) (c d n : ℕ) (cells : List C) →
     n ≤ length cells → length (grown_below kind shape c d n cells) ≡ length cells
 unfolding grown_below
-length-grown_below kind shape c d n cells h = simp (length-append, length-map-range_with_len, length-drop) (omega arith)
+length-grown_below kind shape c d n cells h = search (rules, places, length-map-range_with_len)
 
 pub get_or-grown_below : {C W L : Type 0} (kind : Kind C W) (shape : Shape L) (c d n : ℕ) (cells : List C) (k : ℕ) (x : C) →
     k < n → get_or (grown_below kind shape c d n cells) k x ≡ carried kind shape cells c (shape.named d k)
 unfolding grown_below
-get_or-grown_below {C} kind shape c d n cells k x h =
-    let f : ℕ → C = λ i. carried kind shape cells c (shape.named d i) in
-    let l : k < length (map f (range_with_len 0 n)) = rw length-map-range_with_len h in
-    get_or_append_left _ _ x k l ∙ get_or-map-range_with_len f 0 n k k x h (omega arith)
+get_or-grown_below kind shape c d n cells k x h = grind (arith, places, get_or-map-range_with_len, length-map-range_with_len)
 
 pub get_or-grown_above : {C W L : Type 0} (kind : Kind C W) (shape : Shape L) (c d n : ℕ) (cells : List C) (k : ℕ) (x : C) →
     n ≤ k → get_or (grown_below kind shape c d n cells) k x ≡ get_or cells k x
 unfolding grown_below
-get_or-grown_above kind shape c d n cells k x h =
-    let e : n + (k - n) ≡ k = omega arith in
-    get_or-append_right _ (drop n cells) n k x (length-map-range_with_len _ 0 n) h ∙ get_or-drop n cells (k - n) x ∙ ap (λ i. get_or cells i x) e
+get_or-grown_above kind shape c d n cells k x h = search (rules, places, length-map-range_with_len)
 
 pub length-grown : {C W L : Type 0} (kind : Kind C W) (shape : Shape L) (c d : ℕ) (cells : List C) →
     shape.total d ≤ length cells → length (grown kind shape c d cells) ≡ length cells
@@ -43,14 +37,14 @@ pub carried_is : {C W L : Type 0} (kind : Kind C W) (shape : Shape L) → Placin
 carried_is kind shape placing c d cells a b k hc hd e =
     let p = placing.each d k hd (placing.within d a b k hd e).2 in
     let own = placing.own d k p.0 hd p.1 in
-    ap (carried kind shape cells c) p.1
-    ∙ ap (held kind cells) (placing.alike d c p.0.0 p.0.1 a b k hd hc own e)
+    let alike = placing.alike d c p.0.0 p.0.1 a b k hd hc own e in
+    grind arith
 
 -- a pair that has a cell at d holds there what it held at c, the empty cell where it had none
 pub held_grown : {C W L : Type 0} (kind : Kind C W) (shape : Shape L) → Placing shape.total shape.place shape.named →
     (c d : ℕ) (cells : List C) (a b k : ℕ) → c ≤ 256 → d ≤ 256 → shape.place d a b ≡ Some k →
     held kind (grown kind shape c d cells) (shape.place d a b) ≡ held kind cells (shape.place c a b)
 held_grown kind shape placing c d cells a b k hc hd e =
-    ap (held kind (grown kind shape c d cells)) e
-    ∙ get_or-grown_below kind shape c d (shape.total d) cells k kind.empty (placing.within d a b k hd e).2
-    ∙ carried_is kind shape placing c d cells a b k hc hd e
+    let is = carried_is kind shape placing c d cells a b k hc hd e in
+    let now = get_or-grown_below kind shape c d (shape.total d) cells k kind.empty (placing.within d a b k hd e).2 in
+    grind arith

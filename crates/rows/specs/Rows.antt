@@ -1,16 +1,11 @@
 -- Moving rows of cells as a matrix grows. Assumes nothing.
-use Rattle.std.specs.Prelude.{ℕ, ◌+◌, ◌-◌, List, ◌++◌, map, length, take, drop, replicate, Some, None, Option, slice_index_or, slice_range}
-use Rattle.std.proofs.Math.Seq.{paste}
-use Rattle.std.specs.List.{range_with_len}
+use Rattle.std.specs.Prelude.{ℕ, ◌+◌, ◌-◌, List, ◌++◌, map, take, drop, replicate, Some, None, Option, slice_index_or}
+use Rattle.std.specs.List.{copy_within, range_with_len}
 use Rattle.rows.specs.Kinds.{Kind, Shape}
 
 -- the first n cells empty, the others as they are
 abbrev pub blanked : {C W : Type 0} → Kind C W → ℕ → List C → List C
 blanked kind n cells = replicate n kind.empty ++ drop n cells
-
--- all but the last `shift` cells, moved so far up; the first ones stay
-abbrev pub moved : {C : Type 0} → ℕ → List C → List C
-moved shift part = paste part shift part (length part - shift)
 
 -- what the cell holds that a pair has, the empty cell where it has none
 abbrev pub held : {C W : Type 0} → Kind C W → List C → Option ℕ → C
@@ -44,13 +39,10 @@ moves_of shape c d k (Some pair) = ahead k (shape.place d pair.0 pair.1)
 abbrev pub moves_by : {L : Type 0} → Shape L → ℕ → ℕ → ℕ → ℕ
 moves_by shape c d k = moves_of shape c d k (shape.named c k)
 
--- the cells from a to e changed by f
-abbrev pub changed : {C : Type 0} → ℕ → ℕ → (List C → List C) → List C → List C
-changed a e f cells = take a cells ++ (f (slice_range cells a e) ++ drop (e - a) (drop a cells))
-
+-- the cells from a to e made empty
 abbrev pub emptied : {C W : Type 0} → Kind C W → ℕ → ℕ → List C → List C
-emptied kind a e cells = changed a e (λ part. replicate (length part) kind.empty) cells
+emptied kind a e cells = take a cells ++ (replicate (e - a) kind.empty ++ drop e cells)
 
--- the cells from start to end moved up by `shift`, and the cells from there to top empty
+-- the cells from start to end copied `shift` up, and the cells from there to top empty
 abbrev pub lifted : {C W : Type 0} → Kind C W → ℕ → ℕ → ℕ → ℕ → List C → List C
-lifted kind start end shift top cells = changed start (end + shift) (moved shift) (emptied kind (end + shift) top cells)
+lifted kind start end shift top cells = copy_within (emptied kind (end + shift) top cells) start end (start + shift)

@@ -1,5 +1,5 @@
 -- How far the cells have come as they move, the last ones first. Assumes nothing.
-use Rattle.std.specs.Prelude.{◌≡◌, ℕ, ◌+◌, ◌<◌, ◌≤◌}
+use Rattle.std.specs.Prelude.{◌≡◌, ℕ, ◌+◌, ◌-◌, ◌<◌, ◌≤◌}
 use Rattle.rows.specs.Kinds.{Shape}
 use Rattle.rows.specs.Rows.{moves_by}
 
@@ -9,6 +9,13 @@ pub record Grows {L : Type 0} (shape : Shape L) (c d : ℕ) : Type 0 where
   pub more : c < ids
   pub few : ids ≤ 256
   pub wide : d ≡ shape.wide ids
+
+-- of the cells of capacity c from start to end, the last goes `shift` up and the first no less far; the one before them goes less far
+pub record IsRun {L : Type 0} (shape : Shape L) (c d start end shift : ℕ) : Type 0 where
+  pub some : start < end
+  pub last : shift ≡ moves_by shape c d (end - 1)
+  pub here : shift ≤ moves_by shape c d start
+  pub before : 0 < start → moves_by shape c d (start - 1) < shift
 
 -- the cells of capacity c below `end` go below `top`, and the others to it or past it
 pub record Parted {L : Type 0} (shape : Shape L) (c d end top : ℕ) : Type 0 where

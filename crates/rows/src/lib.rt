@@ -3,6 +3,7 @@
 
 mod growth;
 mod row;
+mod run;
 
 pub use growth::grow;
 pub use row::fill;

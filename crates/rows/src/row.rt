@@ -1,5 +1,4 @@
-ghost use Rattle.std.specs.Prelude.{◌≡◌, ◌≤◌, length, replicate};
-ghost use Rattle.rows.specs.Rows.{moved};
+ghost use Rattle.std.specs.Prelude.{◌≡◌, length, replicate};
 
 use cells::Nullable;
 
@@ -7,16 +6,7 @@ use cells::Nullable;
 pub fn fill<C: Nullable>(part: &mut [C])
     ensures { part.new ≡ replicate (length part.old) C.Nullable.empty }
 {
-    for cell in part.iter_mut() {
-        *cell = C::default();
-    }
-}
-
-// Moves a row, which begins where the part does and ends so far before its end, by that distance.
-pub(crate) fn move_row<C: Nullable>(part: &mut [C], shift: usize)
-    requires { shift ≤ length part.old }
-    ensures { part.new ≡ moved shift part.old }
-{
-    let count = part.len() - shift;
-    part.copy_within(..count, shift);
+    // Not by `fill`: it clones, and no bound says that a clone of `C` is the same cell.
+    let empty = C::default();
+    part.fill_with(|| empty);
 }

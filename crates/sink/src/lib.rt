@@ -5,6 +5,8 @@ ghost use Rattle.std.specs.Prelude.{◌≡◌, [], ◌∷◌, decimal};
 ghost use Rattle.std.specs.Fmt.{signed_decimal};
 ghost use Rattle.sink.specs.Output.{laid, Wrote};
 
+use itoa::{Buffer, Integer};
+
 #[derive(Drop)]
 pub struct Sink<'a> {
     out: &'a mut [u8],
@@ -44,31 +46,12 @@ impl<'a> Sink<'a> {
         self.text(&[b]);
     }
 
-    // Adds the digits of `n`, with no leading zero.
-    pub fn decimal(&mut self, n: u32)
-        ensures { Wrote self.old self.new (decimal n) }
+    // Adds the digits of `n`, with no leading zero, after a minus sign where it is below zero.
+    pub fn number<I: Integer>(&mut self, n: I)
+        ensures { Wrote self.old self.new (I.text n) }
     {
-        let mut digits = [0; 10];
-        self.text(spell(&mut digits, n));
-    }
-
-    // Adds the digits of `z`, after a minus sign where it is below zero.
-    pub fn signed(&mut self, z: i32)
-        ensures { Wrote self.old self.new (signed_decimal z) }
-    {
-        if z < 0 {
-            self.negative(z.unsigned_abs());
-        } else {
-            self.decimal(z.unsigned_abs());
-        }
-    }
-
-    // Adds a minus sign and the digits of `size`.
-    fn negative(&mut self, size: u32)
-        ensures { Wrote self.old self.new (45 ∷ decimal size) }
-    {
-        self.byte(b'-');
-        self.decimal(size);
+        let mut buffer = Buffer::new();
+        self.text(buffer.format(n).as_bytes());
     }
 }
 
@@ -76,25 +59,10 @@ impl<'a> Sink<'a> {
 fn put(out: &mut [u8], at: usize, text: &[u8])
     ensures { out.new ≡ laid out.old at text.now }
 {
-    if at < out.len() {
-        let n = text.len().min(out.len() - at);
-        out[at..at + n].copy_from_slice(&text[0..n]);
+    if let Some((_before, room)) = out.split_at_mut_checked(at) {
+        let n = room.len().min(text.len());
+        room[..n].copy_from_slice(&text[..n]);
     }
-}
-
-// Writes the digits of `n` at the end of `digits`, and answers that part.
-fn spell(digits: &mut [u8; 10], n: u32) -> &[u8]
-    ensures { result.now ≡ decimal n }
-{
-    let mut rest = n;
-    let mut at = 9;
-    while rest >= 10 {
-        digits[at] = b'0' + (rest % 10) as u8;
-        rest /= 10;
-        at -= 1;
-    }
-    digits[at] = b'0' + rest as u8;
-    &digits[at..]
 }
 
 #[cfg(test)]
@@ -128,16 +96,29 @@ mod tests {
         assert_eq!(rt; long, *b"abc..");
     }
 
+    // The text of each type, as a caller at that type knows it.
+    fn unsigned(sink: &mut Sink, n: u32)
+        ensures { Wrote sink.old sink.new (decimal n) }
+    {
+        sink.number(n);
+    }
+
+    fn signed(sink: &mut Sink, z: i32)
+        ensures { Wrote sink.old sink.new (signed_decimal z) }
+    {
+        sink.number(z);
+    }
+
     #[test]
     fn writes_numbers(rt: HostRuntime) {
         let mut out = [b'.'; 48];
         let mut sink = Sink::new(&mut out);
         for n in [0, 9, 10, 4294967295] {
-            sink.decimal(n);
+            unsigned(&mut sink, n);
             sink.byte(b' ');
         }
         for z in [i32::MIN, -1, 0, i32::MAX] {
-            sink.signed(z);
+            signed(&mut sink, z);
             sink.byte(b' ');
         }
         assert_eq!(rt; sink.len(), 46);

@@ -1,5 +1,2 @@
 pub mod Uneven
-pub mod Seats
-pub mod Places
-pub mod Pairs
-pub mod Grown
+pub mod UnevenLemmas

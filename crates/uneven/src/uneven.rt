@@ -1,15 +1,12 @@
 // Row 0 and column 0 are one; every other pair has a cell of its own.
-ghost use Rattle.std.specs.Prelude.{◌≡◌, ◌<◌, ◌≤◌};
+ghost use Rattle.std.specs.Prelude.{◌≡◌, ◌<◌};
 ghost use Rattle.uneven.specs.Uneven.{cell, named, pair, place, total, wide};
-ghost use Rattle.uneven.specs.Seats.{every};
-ghost use Rattle.uneven.specs.Places.{few, within, shared, alike};
-ghost use Rattle.uneven.specs.Pairs.{each, own};
-ghost use Rattle.uneven.specs.Grown.{rising, enough, order, onward};
+ghost use Rattle.uneven.specs.UnevenLemmas.{every_pair, growing, placing};
 
 use layouts::{Capacity, EdgeType};
 use std::cmp;
 
-#[derive(Clone, Copy)]
+#[derive(Clone, Copy, Debug, Default, PartialEq, Eq)]
 pub struct Uneven;
 
 impl EdgeType for Uneven {
@@ -21,11 +18,11 @@ impl EdgeType for Uneven {
 
     ghost wide = { wide };
 
-    ghost every_pair = { every };
+    ghost every_pair = { every_pair };
 
-    ghost placing = { record { few = few; within = within; each = each; own = own; shared = shared; alike = alike } };
+    ghost placing = { placing };
 
-    ghost growing = { record { rising = rising; enough = enough; order = order; onward = onward } };
+    ghost growing = { growing };
 
     fn cell_count(self, capacity: Capacity) -> usize {
         let width = capacity.get();
@@ -34,19 +31,18 @@ impl EdgeType for Uneven {
     }
 
     fn to_edge_position(self, capacity: Capacity, row: u8, column: u8) -> Option<usize> {
-        let width = capacity.get();
-        let (row, column) = (row as usize, column as usize);
-        if cmp::max(row, column) >= width {
+        let (row, column) = (usize::from(row), usize::from(column));
+        if cmp::max(row, column) >= capacity.get() {
             return None;
         }
-        Some(cell_of(width, row, column))
+        Some(cell_of(capacity, row, column))
     }
 
     fn to_pair(self, capacity: Capacity, position: usize) -> Option<(u8, u8)> {
         if position >= self.cell_count(capacity) {
             return None;
         }
-        Some(pair_of(capacity.get(), position))
+        Some(pair_of(capacity, position))
     }
 
     fn grown_capacity(self, node_count: Capacity) -> Capacity {
@@ -54,12 +50,11 @@ impl EdgeType for Uneven {
     }
 }
 
-// The cell of a pair below the width.
-fn cell_of(width: usize, row: usize, column: usize) -> usize
-    requires width_bound { width ≤ 256 }
-    requires row_lt_width { row < width }
-    requires column_lt_width { column < width }
-    ensures { result ≡ cell width row column }
+// The cell of a pair below the capacity.
+fn cell_of(capacity: Capacity, row: usize, column: usize) -> usize
+    requires row_below { row < capacity }
+    requires column_below { column < capacity }
+    ensures { result ≡ cell capacity row column }
 {
     if row == 0 {
         return column;
@@ -67,15 +62,16 @@ fn cell_of(width: usize, row: usize, column: usize) -> usize
     if column == 0 {
         return row;
     }
+    let width = capacity.get();
     width + (row - 1) * (width - 1) + (column - 1)
 }
 
 // The pair of a cell below the count.
-fn pair_of(width: usize, position: usize) -> (u8, u8)
-    requires width_bound { width ≤ 256 }
-    requires position_bound { position < total width }
-    ensures { result ≡ pair width position }
+fn pair_of(capacity: Capacity, position: usize) -> (u8, u8)
+    requires { position < total capacity }
+    ensures { result ≡ pair capacity position }
 {
+    let width = capacity.get();
     if position < width {
         return (position as u8, 0);
     }

@@ -95,9 +95,7 @@ fn a_line_of_40_bytes_is_read(rt: HostRuntime) -> Result<(), Fail> {
 // A chart file of `len` bytes whose second line is too long.
 fn one_long_line(heap: Global, len: usize) -> Result<Vec<u8>, AllocError> {
     let mut input = b"chart,square\n".to_vec(heap)?;
-    for _ in 13..len {
-        input.push(b'x')?;
-    }
+    input.resize(len, b'x')?;
     Ok(input)
 }
 

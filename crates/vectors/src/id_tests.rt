@@ -12,23 +12,8 @@ fn fill(ids: &mut IdStorage, places: &mut [u16], count: usize) -> usize {
 
 // Adds with the first `count` places alone.
 fn add_to(ids: &mut IdStorage, places: &mut [u16], count: usize) -> Result<u8, MatrixError> {
-    if places.len() < count {
-        return Err(MatrixError::ShortMemory);
-    }
-    ids.add(&mut places[0..count], 7)
-}
-
-// Removes with the first `count` places alone.
-fn remove_from(
-    ids: &mut IdStorage,
-    places: &[u16],
-    count: usize,
-    id: u8,
-) -> Result<u16, MatrixError> {
-    if places.len() < count {
-        return Err(MatrixError::ShortMemory);
-    }
-    ids.remove(&places[0..count], id)
+    let places = places.get_mut(..count).ok_or(MatrixError::ShortMemory)?;
+    ids.add(places, 7)
 }
 
 #[test]
@@ -66,10 +51,7 @@ fn vacated_ids_are_handed_out_again(rt: HostRuntime) {
     assert_eq!(rt; ids.remove(&places, 1), Ok(7));
     assert_eq!(rt; ids.remove(&places, 3), Ok(7));
     assert_eq!(rt; ids.remove(&places, 1), Err(MatrixError::NodeMissed(1)));
-    assert_eq!(rt;
-        remove_from(&mut ids, &places, 2, 0),
-        Err(MatrixError::ShortMemory)
-    );
+    assert_eq!(rt; ids.remove(&places[..2], 0), Err(MatrixError::ShortMemory));
     assert_eq!(rt; ids.node_bound(), 3);
     assert_eq!(rt; ids.len(), 2);
     assert_eq!(rt; ids.is_live(1), false);
@@ -82,7 +64,7 @@ fn vacated_ids_are_handed_out_again(rt: HostRuntime) {
     ids.clear();
     assert_eq!(rt; ids.len(), 0);
     assert_eq!(rt;
-        remove_from(&mut ids, &places, 0, 0),
+        ids.remove(&places[..0], 0),
         Err(MatrixError::NodeMissed(0))
     );
     assert_eq!(rt; add_to(&mut ids, &mut places, 1), Ok(0));

@@ -4,30 +4,24 @@ use uneven::Uneven;
 
 // Whether the pair that a cell names has that cell.
 fn is_found_again<L: EdgeType>(layout: L, capacity: Capacity, position: usize) -> bool {
-    match layout.to_pair(capacity, position) {
-        Some((row, column)) => { layout.to_edge_position(capacity, row, column) == Some(position) }
-        None => false,
-    }
+    let found = layout.to_pair(capacity, position).and_then(|(row, column)| layout.to_edge_position(
+        capacity, row, column,
+    ));
+    found == Some(position)
 }
 
 // Whether every cell is found again by the pair that it names, and no cell is named past the last.
 fn names_all<L: EdgeType>(layout: L, capacity: usize) -> bool {
     let capacity = Capacity::saturating(capacity);
     let count = layout.cell_count(capacity);
-    let mut all = layout.to_pair(capacity, count).is_none();
-    for position in 0..count {
-        all = all && is_found_again(layout, capacity, position);
-    }
-    all
+    layout.to_pair(capacity, count).is_none()
+        && (0..count).all(|position| is_found_again(layout, capacity, position))
 }
 
 fn names_all_at_the_edges<L: EdgeType>(layout: L) -> bool {
-    names_all(layout, 0)
-        && names_all(layout, 1)
-        && names_all(layout, 4)
-        && names_all(layout, 5)
-        && names_all(layout, 255)
-        && names_all(layout, 256)
+    [0, 1, 4, 5, 255, 256]
+        .iter()
+        .all(|capacity| names_all(layout, *capacity))
 }
 
 fn cells<L: EdgeType>(layout: L, capacity: usize) -> usize {

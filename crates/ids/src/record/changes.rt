@@ -1,5 +1,5 @@
 // Handing out and vacating ids, with the places of their weights.
-ghost use Rattle.std.specs.Prelude.{◌≡◌, ◌+◌, ◌<◌, true, Ok, ◌≢◌, slice_set};
+ghost use Rattle.std.specs.Prelude.{◌≡◌, ◌<◌, true, Ok, slice_set};
 ghost use Rattle.ids.specs.Calls.{added, crowded, next, removed, room, taken, vacated};
 ghost use Rattle.ids.specs.Ids.{count, live, none};
 ghost use Rattle.ids.specs.Record.{ids};
@@ -10,6 +10,7 @@ use errors::MatrixError;
 
 impl IdStorage {
     // The next id, with this weight at its place.
+    #[tactic(auto, using(crate::proofs::Series::series_keep))]
     pub fn add<N: Copy>(&mut self, places: &mut [N], weight: N) -> Result<u8, MatrixError>
         ensures outcome { record { answer = result; ids = ids self.new; places = places.new } ≡ added (ids self.old) places.old weight }
         ensures series { SeriesKeep N }
@@ -22,13 +23,9 @@ impl IdStorage {
     pub fn remove<N: Copy>(&mut self, places: &[N], id: u8) -> Result<N, MatrixError>
         ensures { record { answer = result; ids = ids self.new; places = places.now } ≡ removed (ids self.old) places.now id }
     {
-        match self.get(places, id)? {
-            Some(weight) => {
-                self.vacate(id);
-                Ok(weight)
-            }
-            None => Err(MatrixError::NodeMissed(id)),
-        }
+        let weight = self.get(places, id)?.ok_or(MatrixError::NodeMissed(id))?;
+        self.vacate(id);
+        Ok(weight)
     }
 
     // No ids: what was live is not, and nothing is stacked.
@@ -42,15 +39,14 @@ impl IdStorage {
     fn check_room<N>(&self, places: &[N]) -> Result<(), MatrixError>
         ensures { result ≡ room (ids self.now) places.now }
     {
-        let bound = self.node_bound();
-        if places.len() < bound {
+        if self.is_short(places) {
             return Err(MatrixError::ShortMemory);
         }
         if self.len() == 255 {
             return Err(MatrixError::NodeIxLimit);
         }
         if self.is_crowded(places) {
-            return Err(MatrixError::NoSpace(bound + 1));
+            return Err(MatrixError::NoSpace(self.node_bound() + 1));
         }
         Ok(())
     }
@@ -59,10 +55,11 @@ impl IdStorage {
     fn is_crowded<N>(&self, places: &[N]) -> bool
         ensures { result ≡ crowded (ids self.now) places.now }
     {
-        self.height() == 0 && self.upper_bound == places.len()
+        self.removed_ids.is_empty() && self.node_bound() == places.len()
     }
 
     // Hands out an id, and writes the weight at its place.
+    #[tactic(auto, using(crate::proofs::Adding::room_enough))]
     fn place<N: Copy>(&mut self, places: &mut [N], weight: N) -> u8
         requires { room (ids self.old) places.old ≡ Ok tt }
         ensures value { result ≡ next (ids self.old) }
@@ -70,7 +67,7 @@ impl IdStorage {
         ensures places { places.new ≡ slice_set places.old result weight }
     {
         let id = self.take_next();
-        places[id as usize] = weight;
+        places[usize::from(id)] = weight;
         id
     }
 
@@ -81,65 +78,30 @@ impl IdStorage {
         ensures after { ids self.new ≡ taken (ids self.old) }
         ensures within { result < self.new.upper_bound }
     {
-        if self.removed == 0 {
-            self.take_new()
-        } else {
-            self.take_removed()
-        }
-    }
-
-    fn take_new(&mut self) -> u8
-        requires { (self.old.removed ≡ 0) × (self.old.upper_bound < 255) }
-        ensures value { result ≡ next (ids self.old) }
-        ensures after { ids self.new ≡ taken (ids self.old) }
-        ensures within { result < self.new.upper_bound }
-    {
-        let id = self.upper_bound;
-        self.upper_bound = id + 1;
-        self.is_live[id] = true;
-        id as u8
-    }
-
-    fn take_removed(&mut self) -> u8
-        requires { 0 < self.old.removed }
-        ensures value { result ≡ next (ids self.old) }
-        ensures after { ids self.new ≡ taken (ids self.old) }
-        ensures within { result < self.new.upper_bound }
-    {
-        let height = self.removed - 1;
-        let id = self.removed_ids[height];
-        self.removed = height;
-        self.is_live[id as usize] = true;
+        let id = match self.removed_ids.pop() {
+            Some(id) => id,
+            None => {
+                let id = self.upper_bound as u8;
+                self.upper_bound += 1;
+                id
+            }
+        };
+        self.is_live[usize::from(id)] = true;
         id
     }
 
     // Vacates a live id: the one just below the upper bound lowers it, any other goes on the stack.
+    #[tactic(auto, using(crate::proofs::Vacating::vacates))]
     fn vacate(&mut self, id: u8)
         requires { live (ids self.old) id ≡ true }
         ensures { ids self.new ≡ vacated (ids self.old) id }
     {
-        if id as usize + 1 == self.upper_bound {
-            self.lower(id);
+        let index = usize::from(id);
+        self.is_live[index] = false;
+        if index + 1 == self.upper_bound {
+            self.upper_bound -= 1;
         } else {
-            self.push(id);
+            self.removed_ids.push(id);
         }
-    }
-
-    fn lower(&mut self, id: u8)
-        requires { (live (ids self.old) id ≡ true) × (id + 1 ≡ self.old.upper_bound) }
-        ensures { ids self.new ≡ vacated (ids self.old) id }
-    {
-        self.upper_bound = id as usize;
-        self.is_live[id as usize] = false;
-    }
-
-    fn push(&mut self, id: u8)
-        requires { (live (ids self.old) id ≡ true) × ((id + 1 ≢ self.old.upper_bound)) }
-        ensures { ids self.new ≡ vacated (ids self.old) id }
-    {
-        let height = self.removed;
-        self.removed_ids[height] = id;
-        self.removed = height + 1;
-        self.is_live[id as usize] = false;
     }
 }

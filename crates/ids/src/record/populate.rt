@@ -8,6 +8,7 @@ use errors::MatrixError;
 
 impl IdStorage {
     // Nodes of this weight, until both ids are live or one more node is refused.
+    #[tactic(auto, using(crate::proofs::Populating::populates))]
     pub fn populate<N: Copy>(
         &mut self,
         places: &mut [N],

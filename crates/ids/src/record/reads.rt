@@ -1,10 +1,11 @@
 // What the record of ids tells, and places read by it.
-ghost use Rattle.std.specs.Prelude.{◌≡◌, ℕ, ◌<◌, ◌≤◌, false, List, length, slice_index_or};
+ghost use Rattle.std.specs.Prelude.{◌≡◌, ◌≤◌};
 ghost use Rattle.ids.specs.Calls.{got, replaced, short};
-ghost use Rattle.ids.specs.Ids.{count, ids_of, live, none};
+ghost use Rattle.ids.specs.Ids.{count, live, none};
 ghost use Rattle.ids.specs.Record.{ids};
 
 use super::IdStorage;
+use crate::stack::Stack;
 use errors::MatrixError;
 
 impl IdStorage {
@@ -13,9 +14,8 @@ impl IdStorage {
     {
         IdStorage {
             upper_bound: 0,
-            removed_ids: [0; 255],
-            removed: 0,
-            is_live: none_live(),
+            removed_ids: Stack::new(),
+            is_live: [false; 256],
         }
     }
 
@@ -32,26 +32,26 @@ impl IdStorage {
         ensures value { result ≡ count (ids self.now) }
         ensures bound { result ≤ 255 }
     {
-        self.node_bound() - self.height()
+        self.node_bound() - self.removed_ids.len()
     }
 
     pub fn is_live(&self, id: u8) -> bool
         ensures { result ≡ live (ids self.now) id }
     {
-        self.is_live[id as usize]
+        self.is_live[usize::from(id)]
     }
 
     // The weight of a live id.
     pub fn get<N: Copy>(&self, places: &[N], id: u8) -> Result<Option<N>, MatrixError>
         ensures { result ≡ got (ids self.now) places.now id }
     {
-        if places.len() < self.node_bound() {
+        if self.is_short(places) {
             return Err(MatrixError::ShortMemory);
         }
         if !self.is_live(id) {
             return Ok(None);
         }
-        Ok(Some(places[id as usize]))
+        Ok(places.get(usize::from(id)).copied())
     }
 
     // Another weight for a live id: its old weight.
@@ -63,31 +63,17 @@ impl IdStorage {
     ) -> Result<Option<N>, MatrixError>
         ensures { record { answer = result; ids = ids self.now; places = places.new } ≡ replaced (ids self.now) places.old id weight }
     {
-        let Some(old) = self.get(places, id)? else {
-            return Ok(None);
-        };
-        places[id as usize] = weight;
-        Ok(Some(old))
+        let old = self.get(places, id)?;
+        if old.is_some() {
+            places[usize::from(id)] = weight;
+        }
+        Ok(old)
     }
 
     // Fewer places than are in use.
     pub fn is_short<N>(&self, places: &[N]) -> bool
         ensures { result ≡ short (ids self.now) places.now }
     {
-        self.node_bound() > places.len()
+        places.len() < self.node_bound()
     }
-
-    // How many ids are stacked.
-    pub(super) fn height(&self) -> usize
-        ensures value { result ≡ length (ids self.now).stack }
-        ensures bound { result ≤ (ids self.now).bound }
-    {
-        self.removed
-    }
-}
-
-fn none_live() -> [bool; 256]
-    ensures { (xs : List ℕ) (k : ℕ) → k < 256 → slice_index_or result k false ≡ live (ids_of 0 0 xs) k }
-{
-    [false; 256]
 }

@@ -11,7 +11,7 @@ loop-n-init c = wrote_then_none c.text.ensures
 pub loop-n-preserved : goal.loop-n-preserved
 loop-n-preserved c =
     let more = take_more c.args.numbers.now c.loop-n.n-index 0 c.loop-n-test.true in
-    simp (more, ← flat_map_more (λ n. parted (decimal n)) []) (wrote-append c.loop-n.invariant (wrote-append c.byte.ensures c.decimal.ensures))
+    simp (more, ← flat_map_more (λ n. parted (decimal n)) []) (wrote-append c.loop-n.invariant (wrote-append c.byte.ensures c.number.ensures))
 
 pub returns : goal.returns
 returns c =

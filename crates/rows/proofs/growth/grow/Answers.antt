@@ -1,28 +1,28 @@
-use Rattle.std.proofs.Common.{◌-◌, ap, ◌∙◌, rules}
-use borrow.Rule.Slice.PartMut.{put_mid}
-use Rattle.layouts.specs.Capacities.{size}
-use Rattle.rows.specs.Rows.{grown}
+use Rattle.std.proofs.Common.{◌∙◌, rules}
 use Rattle.rows.specs.Runs.{Grows}
+use Rattle.rows.proofs.Lifted.{filled}
 use Rattle.rows.proofs.Moves.{moves}
-use Rattle.rows.proofs.Runs.{settled}
+use Rattle.rows.proofs.Runs.{forward, parted_run, run_moved, settled}
 use Rattle.rows.proofs.growth.grow.Goals as goal
 
-pub returns : goal.returns
-returns g c =
-    let kind = g.C.Nullable in
-    let shape = g.L.EdgeType in
+pub loop-run-preserved : goal.loop-run-preserved
+loop-run-preserved g c =
     let laws = g.met.L.EdgeType in
-    let from = size c.args.capacity in
-    let to = size c.grown_capacity-grown.result in
-    let cells = c.move_runs-end.new.cells in
-    let end = c.move_runs-end.result.0 in
-    let top = c.move_runs-end.result.1 in
-    let e = c.move_runs-end.ensures in
-    let grows : Grows shape from to = search rules in
-    let m = moves shape laws.every_pair laws.placing laws.growing from to grows kind in
-    record {
-      capacity = c.grown_capacity-grown.ensures;
-      cells = ap (put_mid end (top - end) cells) c.fill.ensures
-          ∙ settled kind shape from to m cells end top (search rules) e.parted e.stays
-          ∙ e.cells ∙ ap (λ d. grown kind shape from d c.args.cells.now) c.grown_capacity-grown.ensures;
-    }
+    let grows : Grows g.L.EdgeType c.args.capacity c.grown_capacity.result = search rules in
+    let m = moves laws.every_pair laws.placing laws.growing grows g.C.Nullable in
+    let now = c.loop-run in
+    let run = c.in-Some.run' in
+    let is = c.in-Some.ensures.some in
+    let moved = run_moved m now.invariant.parted is.1 now.cells (search rules) in
+    record { parted = parted_run m now.invariant.parted is.1; cells = rw (c.lift.ensures, is.0) (moved ∙ now.invariant.cells) }
+
+pub returns-clause-cells : goal.returns-clause-cells
+returns-clause-cells g c =
+    let laws = g.met.L.EdgeType in
+    let grows : Grows g.L.EdgeType c.args.capacity c.grown_capacity.result = search rules in
+    let m = moves laws.every_pair laws.placing laws.growing grows g.C.Nullable in
+    let now = c.loop-run in
+    let room = now.invariant.parted.room in
+    let is_filled = filled g.C.Nullable now.end now.top now.cells (forward m now.invariant.parted) (search rules) c.fill.new.part c.fill.ensures in
+    let is_settled = settled m now.cells (search rules) now.invariant.parted c.in_default.ensures.none in
+    rw (← c.grown_capacity.ensures) (is_filled ∙ is_settled ∙ now.invariant.cells)

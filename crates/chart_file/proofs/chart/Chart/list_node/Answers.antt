@@ -1,10 +1,9 @@
 use Rattle.std.proofs.Common.{◌≡◌, None, sym, rules}
 use Rattle.ids.specs.Calls.{weight}
 use Rattle.sink.proofs.Writes.{wrote_none}
-use Rattle.chart_file.specs.Record.{state}
 use Rattle.chart_file.proofs.chart.Chart.list_node.Goals as goal
 
 pub returns-in_default : goal.returns-in_default
 returns-in_default c =
-    let none : weight (state c.args.self.now).ids (state c.args.self.now).labels c.args.id ≡ None = sym c.in_default.ensures in
+    let none : weight c.args.self.now.ids c.args.self.now.labels c.args.id ≡ None = sym c.in_default.ensures in
     simp none (search (rules, wrote_none))

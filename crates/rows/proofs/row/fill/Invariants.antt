@@ -1,5 +1,0 @@
-use Rattle.std.proofs.Common.{◌≡◌, take, replicate}
-use Rattle.rows.proofs.row.fill.Given as goal
-
-abbrev pub invariant-loop-cell : goal.invariant-loop-cell
-invariant-loop-cell g l = take l.cell-index l.part ≡ replicate l.cell-index g.C.Nullable.empty
