@@ -1,6 +1,7 @@
 #!/bin/sh
 # Counts the places that docs/DESIGN-PASS.md speaks of, by patterns alone. Run at the top: sh tools/count_places.sh
-src() { find crates -path '*/src/*.rt' | sort | xargs grep -nE "$@" | sed 's/^crates\///'; }
+files() { git ls-files 'crates/*/src/*.rt'; }
+src() { files | xargs grep -nE "$@" | sed 's/^crates\///'; }
 say() { echo; echo "## $1"; }
 
 say "1. enums; numbers given for cases; an Option or a Result taken apart into a stand-in"
@@ -17,12 +18,12 @@ src 'impl.* (PartialEq|Eq|Ord|PartialOrd|Clone|Copy|Display|Debug|From<.*>|TryFr
 src 'fn (read|same|spell|decimal|signed|negative)\b'
 src '#\[derive' | grep -v Debug
 say "5. requires and ensures that stand three times or more; words for the meaning of a record"
-find crates -path '*/src/*.rt' | sort | xargs grep -hoE '(requires|ensures)( [a-z_]+)? \{ .* \}' | sed -E 's/^(requires|ensures) [a-z_]+ /\1 /' | sort | uniq -c | awk '$1 > 2'
-find crates -path '*/src/*.rt' | xargs grep -hoE '\b(size|ids|reading|left|state) \(?(self|result|capacity|from|to|node_count|fields|chart)\b' | awk '{print $1}' | sort | uniq -c
+files | xargs grep -hoE '(requires|ensures)( [a-z_]+)? \{ .* \}' | sed -E 's/^(requires|ensures) [a-z_]+ /\1 /' | sort | uniq -c | awk '$1 > 2'
+files | xargs grep -hoE '\b(size|ids|reading|left|state) \(?(self|result|capacity|from|to|node_count|fields|chart)\b' | awk '{print $1}' | sort | uniq -c
 say "6. arrays and buffers in fields, with what stands beside them"
 src '^\s+[a-z_]+: (\[[a-z0-9]+; |&.* \[|Option<&)' | grep -v ';$' | grep -v '\[0; '
 say "7. closures, functions as values"
 src '\|[a-z_, ]*\| |impl Fn|dyn |: fn\('
 say "8. answers and lines in proofs/"
-find crates -name Answers.antt | xargs grep -hcE '^pub ' | awk '{s += $1} END {print s " answers in " NR " files"}'
-find crates -path '*/proofs/*' -name '*.antt' | xargs cat | wc -l | awk '{print $1 " lines in proofs/"}'
+git ls-files 'crates/*/Answers.antt' | xargs grep -hcE '^pub ' | awk '{s += $1} END {print s " answers in " NR " files"}'
+git ls-files 'crates/*/proofs/*' | xargs cat | wc -l | awk '{print $1 " lines in proofs/"}'

@@ -4,6 +4,8 @@
 mod not_zero;
 mod nullable;
 mod option;
+#[cfg(test)]
+mod tests;
 mod zero;
 
 pub use not_zero::NotZero;

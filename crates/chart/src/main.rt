@@ -7,7 +7,7 @@ use std::io::{Read, Write};
 
 fn main(rt: HostRuntime) -> io::Result<()> {
     let heap = rt.alloc();
-    // One byte more than is read shows an input that is too long.
+    // One byte more than is read shows an input that is too long. By `as`: `From` leads from no `usize` to `u64`.
     let mut input = Vec::new(heap);
     rt.stdin()
         .take(INPUT_MAX as u64 + 1)

@@ -1,5 +1,5 @@
 // What an accepted line is answered.
-#[derive(Clone, Copy)]
+#[derive(Clone, Copy, Debug, PartialEq, Eq)]
 pub enum Answer {
     // The id of the node that was added.
     Id(u8),

@@ -13,9 +13,10 @@ use sink::Sink;
 use std::marker::Model;
 
 // The machines of a panel, each with its label.
-#[derive(Drop)]
+#[derive(Debug, Drop)]
 pub struct Chart {
     ids: IdStorage,
+    // the places of the ids' weights, apart from them since memory is lent to each call
     labels: [u16; 255],
 }
 
@@ -70,6 +71,7 @@ impl Chart {
         ensures { WroteAtMost 16384 sink.old sink.new (listing self.now) }
     {
         self.list_nodes(sink);
+        // By `as`, which is exact for at most 255 ids: `try_from` would add a branch. No edge is tallied yet.
         print(sink, b"end", &[self.ids.len() as u32, 0]);
     }
 
@@ -77,6 +79,7 @@ impl Chart {
         ensures { WroteAtMost (64 * 255) sink.old sink.new (node_lines self.now) }
     {
         for id in 0..self.ids.node_bound() {
+            // Exact, as every id is below 255; `try_from` would add a branch.
             self.list_node(sink, id as u8);
         }
     }

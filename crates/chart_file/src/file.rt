@@ -25,6 +25,7 @@ pub fn run(input: &[u8], out: &mut [u8]) -> Option<usize>
     answer_file(input, out)
 }
 
+// Apart from `run`, which carries the laws too: so a mistake here is told by the promise that it breaks.
 fn answer_file(input: &[u8], out: &mut [u8]) -> Option<usize>
     ensures answer { result ≡ answer input.now }
     ensures buffer { out.new ≡ left_in out.old input.now }
@@ -44,6 +45,7 @@ fn answer_file(input: &[u8], out: &mut [u8]) -> Option<usize>
 fn open(input: &[u8]) -> Result<(Kind, &[u8]), Refusal>
     ensures { Opens (opened (lines input.now)) (length input.now) result }
 {
+    // Byte by byte, here and below: a line is lent by the reader, and an iterator can't lend one.
     let mut reader = LineReader::new();
     let mut bytes = input.iter();
     while let Some(b) = bytes.next() {
@@ -59,10 +61,7 @@ fn open(input: &[u8]) -> Result<(Kind, &[u8]), Refusal>
 fn read_kind(line: Result<&[u8], TooLong>) -> Result<Kind, Refusal>
     ensures { result ≡ ok_or (kind_of (ending line.entry)) BadKind }
 {
-    match line {
-        Ok(bytes) => Kind::try_from(bytes),
-        Err(TooLong) => Err(Refusal::BadKind),
-    }
+    Kind::try_from(line.map_err(|_| Refusal::BadKind)?)
 }
 
 // Answers each line after the first, and lists the chart.

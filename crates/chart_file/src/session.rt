@@ -11,7 +11,7 @@ use lines::TooLong;
 use sink::Sink;
 
 // A chart that is edited line by line, and the number of the next line.
-#[derive(Drop)]
+#[derive(Debug, Drop)]
 pub(crate) struct Session {
     chart: Chart,
     line: u32,

@@ -6,7 +6,7 @@ use crate::answer::Answer;
 use commands::Refusal;
 use sink::Sink;
 
-// A word and numbers, parted by commas.
+// A word and numbers, parted by commas. Not by `write!`: it promises text only where it answers `Ok`, and not that it does.
 pub(crate) fn print(sink: &mut Sink, word: &[u8], numbers: &[u32])
     ensures { WroteAtMost (length word.now + 11 * length numbers.now + 1) sink.old sink.new (printed word.now (map decimal numbers.now)) }
 {

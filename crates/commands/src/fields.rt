@@ -7,8 +7,9 @@ use crate::refusal::Refusal;
 use numbers::read_number;
 use std::marker::Model;
 
-// The fields of a line that are yet to be read.
-#[derive(Drop)]
+// The fields of a line that are yet to be read. Not the library's `split`: the type of its closure would stand in
+// every signature, and `expect` counts the fields before they are read.
+#[derive(Debug, Drop)]
 pub(crate) struct Fields<'a> {
     rest: Option<&'a [u8]>,
 }
@@ -24,10 +25,10 @@ impl<'a> Model for Fields<'a> {
 }
 
 impl<'a> Fields<'a> {
-    pub(crate) fn new(line: &'a [u8]) -> Fields<'a>
-        ensures { result ≡ fields line.now }
+    pub(crate) fn new(rest: &'a [u8]) -> Fields<'a>
+        ensures { result ≡ fields rest.now }
     {
-        Fields { rest: Some(line) }
+        Fields { rest: Some(rest) }
     }
 
     pub(crate) fn none() -> Fields<'a>
@@ -50,6 +51,7 @@ impl<'a> Fields<'a> {
     {
         let found = self.len();
         if found != wanted {
+            // Exact, by the bound on `wanted`; `try_from` would add a branch.
             return Err(Refusal::FieldCount((found.min(wanted) + 2) as u8));
         }
         Ok(())

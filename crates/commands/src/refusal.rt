@@ -23,20 +23,18 @@ pub enum Refusal {
 }
 
 impl Refusal {
-    // The field at which the line is refused, from 1; 0 where the graph refused.
+    // The field at which the line is refused, from 1; 0 where the graph refused. The format prints it.
     pub fn field(&self) -> u8
         ensures { result ≡ field self.now }
     {
         match self {
-            Refusal::LineLong => 1,
-            Refusal::BadLetter => 1,
-            Refusal::FieldCount(at) => *at,
-            Refusal::BadNumber(at) => *at,
-            Refusal::BadKind => 1,
+            Refusal::LineLong | Refusal::BadLetter | Refusal::BadKind => 1,
+            Refusal::FieldCount(at) | Refusal::BadNumber(at) => *at,
             Refusal::Graph(_) => 0,
         }
     }
 
+    // The format prints it.
     pub fn number(&self) -> u8
         ensures { result ≡ number self.now }
     {

@@ -17,6 +17,7 @@ pub enum MatrixError {
 }
 
 impl MatrixError {
+    // Formats print this number.
     pub fn number(&self) -> u8
         ensures { result ≡ number self.now }
     {

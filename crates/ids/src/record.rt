@@ -8,7 +8,8 @@ mod reads;
 
 use crate::stack::Stack;
 
-// All of its memory is fixed: no call allocates.
+// All of its memory is fixed: no call allocates, and the places of weights are lent to each call. No `Model`: this is `Copy`, and `ids`, which says what it means,
+// forgets entries of the stack that are not in use.
 #[derive(Clone, Copy, Debug)]
 pub struct IdStorage {
     upper_bound: usize,

@@ -29,7 +29,10 @@ impl EdgeType for Undirected {
         row_start(capacity.get())
     }
 
-    fn to_edge_position(self, capacity: Capacity, row: u8, column: u8) -> Option<usize> {
+    fn to_edge_position(self, capacity: Capacity, row: u8, column: u8) -> Option<usize>
+        ensures value { result ≡ place capacity row column }
+        ensures mirrored { result ≡ place capacity column row }
+    {
         let larger = usize::from(cmp::max(row, column));
         let smaller = usize::from(cmp::min(row, column));
         if larger >= capacity.get() {
@@ -47,6 +50,7 @@ impl EdgeType for Undirected {
         }
         let row = row_of(capacity, position);
         let column = position - row_start(row);
+        // Exact, as both are below the capacity, which is at most 256; `try_from` would add a branch.
         Some((row as u8, column as u8))
     }
 

@@ -61,6 +61,13 @@ stepped (filling bs) b = filled bs b
 stepped skipping b = cond (b == 10) (ended long) skipping
 stepped (ended e) b = filled [] b
 
+-- a state holds at most 40 bytes
+abbrev pub Room : Reading → Type 0
+Room (filling bs) = length bs ≤ 40
+Room skipping = Unit {0}
+Room (ended (whole bs)) = length bs ≤ 40
+Room (ended long) = Unit {0}
+
 -- the line that a state has just ended
 abbrev pub completed : Reading → Option Ending
 completed (filling bs) = None

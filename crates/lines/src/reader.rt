@@ -1,6 +1,6 @@
 // The machine that finds lines, from byte to byte.
 ghost use Rattle.std.specs.Prelude.{◌≡◌, []};
-ghost use Rattle.lines.specs.Lines.{GivesLines, Short, completed, filling, finished, stepped};
+ghost use Rattle.lines.specs.Lines.{GivesLines, Room, Short, completed, filling, finished, stepped};
 ghost use Rattle.lines.specs.Readers.{lent};
 
 use arrayvec::ArrayVec;
@@ -45,12 +45,14 @@ pub struct LineReader {
 }
 
 impl Model for LineReader {
-    ghost use Rattle.lines.specs.Lines.{Reading};
+    ghost use Rattle.lines.specs.Lines.{Reading, Room};
     ghost use Rattle.lines.specs.States.{meant};
 
     ghost Value = { Reading };
 
     ghost view = { λ r. meant r.state };
+
+    ghost invariant = { λ r. Room (meant r.state) };
 }
 
 impl LineReader {
@@ -66,7 +68,8 @@ impl LineReader {
 
     // Takes the next byte of the input.
     pub fn step(&mut self, b: u8)
-        ensures { self.new ≡ stepped self.old b }
+        ensures after { self.new ≡ stepped self.old b }
+        ensures room { Room self.new }
     {
         match (&mut self.state, b) {
             (State::Filling(line), b'\n') => self.state = State::Ended(Some(line.take())),

@@ -1,7 +1,7 @@
 // Decimal number fields: digits with no zero in front, but for `0` itself, and a minus before those of a negative number.
 #![tactic(auto)]
 
-ghost use Rattle.std.specs.Prelude.{◌≡◌, ◌^◌, ◌≤◌, [], ◌∷◌, Some};
+ghost use Rattle.std.specs.Prelude.{◌≡◌, [], ◌∷◌, Some};
 ghost use Rattle.numbers.specs.Fields.{Means, bounded, limited, negative, number_field, numeral, reading, size};
 
 // The size of `i32::MIN`. A larger one lies past any limit, and is refused while it is read.
@@ -12,17 +12,15 @@ pub fn read_number(field: &[u8], low: i32, high: i32) -> Option<i32>
     ensures value { result ≡ number_field low high field.now }
     ensures means { Means low high field.now result }
 {
-    let number = read_signed(field)?;
-    within(number, low, high)
+    read_signed(field).and_then(|number| within(number, low, high))
 }
 
 fn within(number: i64, low: i32, high: i32) -> Option<i32>
     ensures { result ≡ limited low high (Some number) }
 {
-    if number < i64::from(low) || number > i64::from(high) {
-        return None;
-    }
-    Some(number as i32)
+    i32::try_from(number)
+        .ok()
+        .filter(|n| (low..=high).contains(n))
 }
 
 // The number that a field writes, if its size is at most `LARGEST`.
@@ -31,7 +29,7 @@ fn read_signed(field: &[u8]) -> Option<i64>
 {
     match field {
         [b'-', digits @ ..] => read_negative(digits),
-        digits => Some(read_unsigned(digits)? as i64),
+        digits => Some(i64::from(read_unsigned(digits)?)),
     }
 }
 
@@ -41,12 +39,12 @@ fn read_negative(digits: &[u8]) -> Option<i64>
 {
     match digits {
         [b'0', ..] => None,
-        _ => Some(-(read_unsigned(digits)? as i64)),
+        _ => Some(-i64::from(read_unsigned(digits)?)),
     }
 }
 
 // Of all numbers only zero begins with a zero.
-fn read_unsigned(digits: &[u8]) -> Option<u64>
+fn read_unsigned(digits: &[u8]) -> Option<u32>
     ensures { result ≡ size digits.now }
 {
     match digits {
@@ -56,7 +54,7 @@ fn read_unsigned(digits: &[u8]) -> Option<u64>
 }
 
 // The number that digits write, with or without zeros in front, if it is at most `LARGEST`.
-fn read_digits(digits: &[u8]) -> Option<u64>
+fn read_digits(digits: &[u8]) -> Option<u32>
     ensures { result ≡ reading 0 digits.now }
 {
     let mut number = 0;
@@ -67,18 +65,18 @@ fn read_digits(digits: &[u8]) -> Option<u64>
 }
 
 // The number with one more digit, if it is still at most `LARGEST`.
-fn append(number: u64, byte: u8) -> Option<u64>
-    requires { number ≤ 2 ^ 31 }
+fn append(number: u32, byte: u8) -> Option<u32>
     ensures { result ≡ reading number (byte ∷ []) }
 {
     if !byte.is_ascii_digit() {
         return None;
     }
-    let longer = number * 10 + u64::from(byte - b'0');
+    let longer = u64::from(number) * 10 + u64::from(byte - b'0');
     if longer > LARGEST {
         return None;
     }
-    Some(longer)
+    // Exact, as `LARGEST` fits. `u32::try_from` took twice as long.
+    Some(longer as u32)
 }
 
 #[cfg(test)]

@@ -36,7 +36,7 @@ pub fn grow<C: Nullable, L: EdgeType>(
 }
 
 // A layout that grows from one capacity to the next.
-#[derive(Clone, Copy)]
+#[derive(Clone, Copy, Debug)]
 struct Growth<L> {
     layout: L,
     from: Capacity,

@@ -5,7 +5,7 @@ use crate::fill;
 use cells::Nullable;
 
 // Cells in a row that go equally far up.
-#[derive(Clone, Copy)]
+#[derive(Clone, Copy, Debug, PartialEq, Eq)]
 pub(crate) struct Run {
     pub(crate) start: usize,
     pub(crate) end: usize,

@@ -7,9 +7,10 @@ ghost use Rattle.sink.specs.Output.{laid, Wrote};
 
 use itoa::{Buffer, Integer};
 
-#[derive(Drop)]
+#[derive(Debug, Drop)]
 pub struct Sink<'a> {
     out: &'a mut [u8],
+    // of all output, also of what lies past the buffer's end: so no slice of the buffer says it
     len: usize,
 }
 

@@ -1,5 +1,5 @@
 -- Row 0 and column 0 are one and have the first c cells; then each other pair has one, row after row. Assumes nothing.
-use Rattle.std.specs.Prelude.{ℕ, ◌+◌, ◌-◌, ◌*◌, ◌/◌, ◌%◌, min, cond, ◌&&◌, Option, ◌==◌, nat_lt}
+use Rattle.std.specs.Prelude.{◌≡◌, ◌⊎◌, ℕ, ◌+◌, ◌-◌, ◌*◌, ◌/◌, ◌%◌, min, cond, ◌&&◌, Option, ◌==◌, nat_lt}
 use Rattle.std.specs.Bool.{then_some}
 
 -- 0 at capacity 0, where c - 1 is 0
@@ -12,6 +12,14 @@ cell c a b = cond (a == 0) b (cond (b == 0) a (c + (a - 1) * (c - 1) + (b - 1)))
 
 abbrev pub place : ℕ → ℕ → ℕ → Option ℕ
 place c a b = then_some (nat_lt a c && nat_lt b c) (cell c a b)
+
+-- in row 0 or in column 0
+abbrev pub Outer : ℕ → ℕ → Type 0
+Outer a b = (a ≡ 0) ⊎ (b ≡ 0)
+
+-- equal, or mirrored in row 0 and column 0
+abbrev pub Alike : ℕ → ℕ → ℕ → ℕ → Type 0
+Alike a b x y = ((a ≡ x) × (b ≡ y)) ⊎ (Outer a b × (a ≡ y) × (b ≡ x))
 
 -- the pair that a cell below the count names
 abbrev pub pair : ℕ → ℕ → ℕ × ℕ

@@ -1,14 +1,18 @@
 -- Uneven keeps the laws.
-use Rattle.std.specs.Prelude.{◌-◌}
+use Rattle.std.specs.Prelude.{◌≡◌, ℕ, ◌-◌, Some}
 use Rattle.std.proofs.Common.{arith}
 use Rattle.std.proofs.lemmas.Nat.{div-add-mod', div_below, mod_below, mul-add-lt, mul-le, same_from_place}
 use Rattle.std.proofs.lemmas.Bool.Decides.{nat_tests}
 use Rattle.layouts.specs.Laws.{EveryPair, Growing, Placing}
 use Rattle.layouts.specs.Rows.{wider}
-use Rattle.uneven.specs.Uneven.{cell, named, pair, place, total, wide}
+use Rattle.uneven.specs.Uneven.{Alike, cell, named, pair, place, total, wide}
 
 pub every_pair : EveryPair place
 every_pair c a b _ ac bc = (cell c a b, grind (arith, nat_tests))
+
+-- no pairs share a cell but equal ones, and mirrored ones of id 0
+pub alone : (c a b x y k : ℕ) → place c a b ≡ Some k → place c x y ≡ Some k → Alike a b x y
+alone c a b x y k e f = grind (arith, nat_tests, same_from_place (a - 1) (b - 1) (x - 1) (y - 1) (c - 1))
 
 pub placing : Placing total place named
 placing = record {

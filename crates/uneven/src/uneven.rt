@@ -1,6 +1,6 @@
 // Row 0 and column 0 are one; every other pair has a cell of its own.
-ghost use Rattle.std.specs.Prelude.{◌≡◌, ◌<◌};
-ghost use Rattle.uneven.specs.Uneven.{cell, named, pair, place, total, wide};
+ghost use Rattle.std.specs.Prelude.{◌≡◌, ℕ, ◌<◌, Some};
+ghost use Rattle.uneven.specs.Uneven.{Alike, Outer, cell, named, pair, place, total, wide};
 ghost use Rattle.uneven.specs.UnevenLemmas.{every_pair, growing, placing};
 
 use layouts::{Capacity, EdgeType};
@@ -30,7 +30,11 @@ impl EdgeType for Uneven {
         width + inner * inner
     }
 
-    fn to_edge_position(self, capacity: Capacity, row: u8, column: u8) -> Option<usize> {
+    fn to_edge_position(self, capacity: Capacity, row: u8, column: u8) -> Option<usize>
+        ensures value { result ≡ place capacity row column }
+        ensures mirrored { Outer row column → result ≡ place capacity column row }
+        ensures alone { (a b k : ℕ) → result ≡ Some k → place capacity a b ≡ Some k → Alike row column a b }
+    {
         let (row, column) = (usize::from(row), usize::from(column));
         if cmp::max(row, column) >= capacity.get() {
             return None;
@@ -71,6 +75,7 @@ fn pair_of(capacity: Capacity, position: usize) -> (u8, u8)
     requires { position < total capacity }
     ensures { result ≡ pair capacity position }
 {
+    // Each `as` is exact, as the numbers are below the width, which is at most 256; `try_from` would add a branch.
     let width = capacity.get();
     if position < width {
         return (position as u8, 0);

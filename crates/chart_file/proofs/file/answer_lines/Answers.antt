@@ -13,20 +13,14 @@ loop-b-init c =
     let start = answering_none c.args.sink.now c.new-reader.result c.args.input.now room (c.new-reader.ensures.gives.all c.args.input.now) in
     rw (c.new-session.ensures.line, c.new-session.ensures.chart) start
 
-pub answer_ended-requires : goal.answer_ended-requires
-answer_ended-requires c = omega (arith, c.loop-b.invariant.low, c.requires)
-
 pub loop-b-preserved : goal.loop-b-preserved
 loop-b-preserved c =
     let xs = c.args.input.now in
     let i = c.loop-b.b-index in
     let before = rw (drop_more xs i 0 c.loop-b-test.true) at c.loop-b.invariant in
-    let done = c.completed.ensures.line ∙ ap completed c.step.ensures in
+    let done = c.completed.ensures.line ∙ ap completed c.step.ensures.after in
     let more = answering_more c.loop-b.session.line c.loop-b.reader (get_or xs i 0) (drop (i + 1) xs) c.loop-b.session.chart i before (rw done at c.answer_ended.ensures.text) in
-    simp (c.answer_ended.ensures.line, c.answer_ended.ensures.chart, c.step.ensures, done) more
-
-pub answer_ended-requires-2 : goal.answer_ended-requires-2
-answer_ended-requires-2 c = omega (arith, c.loop-b.invariant.low, c.requires)
+    simp (c.answer_ended.ensures.line, c.answer_ended.ensures.chart, c.step.ensures.after, done) more
 
 pub returns : goal.returns
 returns c =

@@ -1,4 +1,4 @@
-use Rattle.std.proofs.Common.{◌≡◌, [], ap, ◌∙◌, arith, rules}
+use Rattle.std.proofs.Common.{[], arith, rules}
 use Rattle.std.specs.List.{range_with_len}
 use Rattle.std.proofs.lemmas.List.{flat_map_more}
 use Rattle.sink.proofs.Writes.{wrote_none}
@@ -14,10 +14,3 @@ loop-id-preserved c =
     let i = c.loop-id.id in
     let step = flat_map_more (node_text c.args.self.now) [] (range_with_len 0 i) i in
     simp (counting_more i, ← step) (wrote_both (omega arith) c.loop-id.invariant c.list_node.ensures)
-
-pub returns : goal.returns
-returns c =
-    let bound = c.node_bound-id-end.ensures.value ∙ ap (λ s. s.ids.bound) c.self.view_is in
-    let end : c.loop-id.id ≡ c.args.self.now.ids.bound = omega arith in
-    let all = rw end at c.loop-id.invariant in
-    record { wrote = all.wrote; bound = omega (arith, all.bound, c.node_bound-id-end.ensures.bound) }
