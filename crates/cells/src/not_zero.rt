@@ -8,7 +8,7 @@ use crate::{Nullable, Zero};
 #[derive(Clone, Copy, Debug, PartialEq, Eq)]
 pub struct NotZero<T>(T);
 
-// The sentinel, which need not be the weights' own `Default`.
+// The sentinel, which need not be the weights' own `Default`, as a derive would take.
 impl<T: Zero> Default for NotZero<T> {
     ghost is_default = { λ x. x ≡ record { 0 = T.sentinel } };
 

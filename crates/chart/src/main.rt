@@ -1,4 +1,4 @@
-// Reads a chart file on standard input, and prints an answer for each of its lines and then the chart.
+// Reads a chart file on standard input, and prints an answer for each of its lines after the first and then the chart.
 #![tactic(auto)]
 
 use chart_file::{INPUT_MAX, run};

@@ -71,7 +71,7 @@ impl Chart {
         ensures { WroteAtMost 16384 sink.old sink.new (listing self.now) }
     {
         self.list_nodes(sink);
-        // By `as`, which is exact for at most 255 ids: `try_from` would add a branch. No edge is tallied yet.
+        // Exact, as there are at most 255 ids; `try_from` is no plainer: it adds an error that can't occur. No edge is tallied yet.
         print(sink, b"end", &[self.ids.len() as u32, 0]);
     }
 
@@ -79,7 +79,7 @@ impl Chart {
         ensures { WroteAtMost (64 * 255) sink.old sink.new (node_lines self.now) }
     {
         for id in 0..self.ids.node_bound() {
-            // Exact, as every id is below 255; `try_from` would add a branch.
+            // Exact, as every id is below 255; `try_from` is no plainer: it adds an error that can't occur.
             self.list_node(sink, id as u8);
         }
     }

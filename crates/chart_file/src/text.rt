@@ -6,7 +6,8 @@ use crate::answer::Answer;
 use commands::Refusal;
 use sink::Sink;
 
-// A word and numbers, parted by commas. Not by `write!`: it promises text only where it answers `Ok`, and not that it does.
+// A word and numbers, parted by commas. Not by `write!`: tried, and the proof did not close, since it promises text
+// only where it answers `Ok`, and not that it does.
 pub(crate) fn print(sink: &mut Sink, word: &[u8], numbers: &[u32])
     ensures { WroteAtMost (length word.now + 11 * length numbers.now + 1) sink.old sink.new (printed word.now (map decimal numbers.now)) }
 {
@@ -18,7 +19,7 @@ pub(crate) fn print(sink: &mut Sink, word: &[u8], numbers: &[u32])
     sink.byte(b'\n');
 }
 
-// What the line with this number is answered.
+// What the line with this number is answered, by `print` and so not by `write!`.
 pub(crate) fn print_reply(sink: &mut Sink, line: u32, answer: Result<Answer, Refusal>)
     ensures { WroteAtMost 64 sink.old sink.new (reply line answer) }
 {

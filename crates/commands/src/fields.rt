@@ -51,7 +51,7 @@ impl<'a> Fields<'a> {
     {
         let found = self.len();
         if found != wanted {
-            // Exact, by the bound on `wanted`; `try_from` would add a branch.
+            // Exact, by the bound on `wanted`; `try_from` is no plainer: it adds an error that can't occur.
             return Err(Refusal::FieldCount((found.min(wanted) + 2) as u8));
         }
         Ok(())

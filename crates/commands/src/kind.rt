@@ -18,7 +18,7 @@ impl TryFrom<&[u8]> for Kind {
     ghost try_from_gives = { λ line r. r ≡ ok_or (kind line.now) BadKind };
 
     fn try_from(line: &[u8]) -> Result<Kind, Refusal> {
-        // By `==`: the goals that a `match` on byte strings leaves know of lengths alone.
+        // By `==`: a `match` on byte strings was tried, and three goals stayed open, which know of lengths alone.
         if line == b"chart,square".as_slice() {
             Ok(Kind::Square)
         } else if line == b"chart,triangle".as_slice() {

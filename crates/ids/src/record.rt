@@ -8,14 +8,14 @@ mod reads;
 
 use crate::stack::Stack;
 
-// All of its memory is fixed: no call allocates, and the places of weights are lent to each call. No `Model`: this is `Copy`, and `ids`, which says what it means,
-// forgets entries of the stack that are not in use.
+// All of its memory is fixed: no call allocates, and the places of weights are lent to each call. No `Model`:
+// tried, and not proved, as that of a `Copy` type has to give its fields back, and `ids` forgets unused entries.
 #[derive(Clone, Copy, Debug)]
 pub struct IdStorage {
     upper_bound: usize,
     // the vacated ids
     removed_ids: Stack,
-    // whether each id is live, so that no call walks the stack
+    // whether each id is live: without it a read walks the stack, and took ten times as long
     is_live: [bool; 256],
     ghost bounded: { upper_bound ≤ 255 },
     ghost fewer: { length (stack removed_ids) ≤ upper_bound },

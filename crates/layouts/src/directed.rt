@@ -45,7 +45,7 @@ impl EdgeType for Directed {
         if position >= self.cell_count(capacity) {
             return None;
         }
-        // Exact, as both are below the width, which is at most 256; `try_from` would add a branch.
+        // Exact, as both are below the width, which is at most 256; `try_from` is no plainer: it adds an error that can't occur.
         let row = (position / width) as u8;
         let column = (position % width) as u8;
         Some((row, column))

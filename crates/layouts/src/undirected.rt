@@ -50,7 +50,7 @@ impl EdgeType for Undirected {
         }
         let row = row_of(capacity, position);
         let column = position - row_start(row);
-        // Exact, as both are below the capacity, which is at most 256; `try_from` would add a branch.
+        // Exact, as both are below the capacity, which is at most 256; `try_from` is no plainer: it adds an error that can't occur.
         Some((row as u8, column as u8))
     }
 

@@ -75,7 +75,7 @@ impl<L: EdgeType> Growth<L> {
         ensures here { distance ≤ moves_by L.EdgeType self.from self.to result }
         ensures before { 0 < result → moves_by L.EdgeType self.from self.to (result - 1) < distance }
     {
-        // By halves: `partition_point` would need a slice of the distances.
+        // By halves: `partition_point` would need a slice of the distances, and there is no heap to hold one.
         let mut low = 0;
         let mut high = position;
         while low < high {

@@ -75,7 +75,7 @@ fn pair_of(capacity: Capacity, position: usize) -> (u8, u8)
     requires { position < total capacity }
     ensures { result ≡ pair capacity position }
 {
-    // Each `as` is exact, as the numbers are below the width, which is at most 256; `try_from` would add a branch.
+    // Each `as` is exact, as the numbers are below the width, which is at most 256; `try_from` is no plainer: it adds an error that can't occur.
     let width = capacity.get();
     if position < width {
         return (position as u8, 0);

@@ -81,7 +81,8 @@ impl IdStorage {
         let id = match self.removed_ids.pop() {
             Some(id) => id,
             None => {
-                // Exact, as every id below the bound is live here, and fewer than 255 are; `try_from` would add a branch.
+                // Exact, as every id below the bound is live here, and fewer than 255 are.
+                // `try_from` is no plainer: it adds an error that can't occur.
                 let id = self.upper_bound as u8;
                 self.upper_bound += 1;
                 id
