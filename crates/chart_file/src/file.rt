@@ -7,7 +7,7 @@ ghost use Rattle.chart_file.specs.Output.{answer, kind_of, left_in, opened, repl
 ghost use Rattle.chart_file.specs.Printed.{WroteAtMost};
 ghost use Rattle.chart_file.specs.Turns.{Opens, ending};
 
-use crate::session::Session;
+use crate::interpreter::Interpreter;
 use crate::text::print_reply;
 use commands::{Kind, Refusal};
 use lines::{LineReader, TooLong};
@@ -70,11 +70,11 @@ fn answer_lines(input: &[u8], sink: &mut Sink)
     ensures { WroteAtMost (2 ^ 32) sink.old sink.new (replies 2 (lines input.now) fresh) }
 {
     let mut reader = LineReader::new();
-    let mut session = Session::new();
+    let mut interpreter = Interpreter::new();
     for b in input {
         reader.step(*b);
-        session.answer_ended(reader.completed(), sink);
+        interpreter.answer_ended(reader.completed(), sink);
     }
-    session.answer_ended(reader.finished(), sink);
-    session.list(sink);
+    interpreter.answer_ended(reader.finished(), sink);
+    interpreter.list(sink);
 }

@@ -4,7 +4,7 @@
 mod answer;
 mod chart;
 mod file;
-mod session;
+mod interpreter;
 mod text;
 
 pub use file::{INPUT_MAX, run};

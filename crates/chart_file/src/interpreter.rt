@@ -12,18 +12,18 @@ use sink::Sink;
 
 // A chart that is edited line by line, and the number of the next line.
 #[derive(Debug, Drop)]
-pub(crate) struct Session {
+pub(crate) struct Interpreter {
     chart: Chart,
     line: u32,
 }
 
-impl Session {
+impl Interpreter {
     // The first line has opened the chart.
-    pub(crate) fn new() -> Session
+    pub(crate) fn new() -> Interpreter
         ensures chart { result.chart ≡ fresh }
         ensures line { result.line ≡ 2 }
     {
-        Session {
+        Interpreter {
             chart: Chart::new(),
             line: 2,
         }
