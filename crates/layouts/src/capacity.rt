@@ -1,4 +1,4 @@
-ghost use Rattle.std.specs.Prelude.{◌≡◌, ◌≤◌, ℕ, min};
+ghost use Rattle.std.specs.Prelude.{◌≡◌, ◌≤◌, min};
 
 use std::cmp;
 use std::marker::Model;
@@ -7,22 +7,24 @@ use std::marker::Model;
 #[derive(Clone, Copy, Debug, PartialEq, Eq, PartialOrd, Ord)]
 pub struct Capacity {
     value: usize,
+    ghost small: { value ≤ 256 },
 }
 
+// The bound goes with the value, so that it is known of every capacity, also of one behind a reference.
 impl Model for Capacity {
-    ghost Value = { ℕ };
+    ghost use Rattle.layouts.specs.Capacities.{Bounded};
 
-    ghost view = { λ c. c.value };
+    ghost Value = { Bounded };
 
-    ghost invariant = { λ c. c.value ≤ 256 };
+    ghost view = { λ c. record { size = c.value; small = c.small } };
 
-    ghost inverse = { λ n. record { value = n } };
+    ghost inverse = { λ n. record { value = n.size; small = n.small } };
 }
 
 impl Capacity {
     // The greatest, 256, for every value above it.
     pub fn saturating(value: usize) -> Capacity
-        ensures { result ≡ min value 256 }
+        ensures { result.size ≡ min value 256 }
     {
         Capacity {
             value: cmp::min(value, 256),
@@ -30,7 +32,7 @@ impl Capacity {
     }
 
     pub fn get(self) -> usize
-        ensures value { result ≡ self }
+        ensures value { result ≡ self.size }
         ensures bound { result ≤ 256 }
     {
         self.value

@@ -61,12 +61,21 @@ stepped (filling bs) b = filled bs b
 stepped skipping b = cond (b == 10) (ended long) skipping
 stepped (ended e) b = filled [] b
 
+-- how many bytes of a line a state holds
+abbrev pub used : Reading → ℕ
+used (filling bs) = length bs
+used skipping = 0
+used (ended (whole bs)) = length bs
+used (ended long) = 0
+
 -- a state holds at most 40 bytes
 abbrev pub Room : Reading → Type 0
-Room (filling bs) = length bs ≤ 40
-Room skipping = Unit {0}
-Room (ended (whole bs)) = length bs ≤ 40
-Room (ended long) = Unit {0}
+Room r = used r ≤ 40
+
+-- what a reader is: a state, and that it has room for its bytes
+pub record Held : Type 0 where
+  pub reading : Reading
+  pub room : Room reading
 
 -- the line that a state has just ended
 abbrev pub completed : Reading → Option Ending

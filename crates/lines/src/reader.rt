@@ -2,6 +2,7 @@
 ghost use Rattle.std.specs.Prelude.{◌≡◌, []};
 ghost use Rattle.lines.specs.Lines.{GivesLines, Room, Short, completed, filling, finished, stepped};
 ghost use Rattle.lines.specs.Readers.{lent};
+ghost use Rattle.lines.specs.States.{meant};
 
 use arrayvec::ArrayVec;
 use std::error::Error;
@@ -42,24 +43,24 @@ enum State {
 #[derive(Debug, Drop)]
 pub struct LineReader {
     state: State,
+    ghost room: { Room (meant state) },
 }
 
+// That its line has room goes with the value, so that it is known of every reader, also of one behind a reference.
 impl Model for LineReader {
-    ghost use Rattle.lines.specs.Lines.{Reading, Room};
+    ghost use Rattle.lines.specs.Lines.{Held};
     ghost use Rattle.lines.specs.States.{meant};
 
-    ghost Value = { Reading };
+    ghost Value = { Held };
 
-    ghost view = { λ r. meant r.state };
-
-    ghost invariant = { λ r. Room (meant r.state) };
+    ghost view = { λ r. record { reading = meant r.state; room = r.room } };
 }
 
 impl LineReader {
     #[tactic(auto, using(crate::proofs::Giving::gives_lines))]
     pub fn new() -> LineReader
-        ensures empty { result ≡ filling [] }
-        ensures gives { GivesLines result }
+        ensures empty { result.reading ≡ filling [] }
+        ensures gives { GivesLines result.reading }
     {
         LineReader {
             state: State::Filling(Line::new()),
@@ -68,8 +69,8 @@ impl LineReader {
 
     // Takes the next byte of the input.
     pub fn step(&mut self, b: u8)
-        ensures after { self.new ≡ stepped self.old b }
-        ensures room { Room self.new }
+        ensures after { self.new.reading ≡ stepped self.old.reading b }
+        ensures room { Room self.new.reading }
     {
         match (&mut self.state, b) {
             (State::Filling(line), b'\n') => self.state = State::Ended(Some(line.take())),
@@ -91,7 +92,7 @@ impl LineReader {
 
     // The line that the last byte ended, if it did.
     pub fn completed(&self) -> Option<Result<&[u8], TooLong>>
-        ensures line { lent result ≡ completed self.now }
+        ensures line { lent result ≡ completed self.now.reading }
         ensures short { Short (lent result) }
     {
         match &self.state {
@@ -103,7 +104,7 @@ impl LineReader {
 
     // The line that the input's end would end, if any.
     pub fn finished(&self) -> Option<Result<&[u8], TooLong>>
-        ensures line { lent result ≡ finished self.now }
+        ensures line { lent result ≡ finished self.now.reading }
         ensures short { Short (lent result) }
     {
         match &self.state {

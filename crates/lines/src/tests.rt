@@ -1,5 +1,6 @@
 // Lines at the limit, and bytes that other readers of lines treat apart.
 ghost use Rattle.std.specs.Prelude.{◌≡◌, is_some};
+ghost use Rattle.lines.specs.Lines.{Room};
 
 use crate::{LineReader, TooLong};
 
@@ -11,6 +12,11 @@ fn size(line: Option<Result<&[u8], TooLong>>) -> Option<usize>
 {
     line.map(|line| line.map_or(TOO_LONG, <[u8]>::len))
 }
+
+// The room of a reader behind a reference, which no call tells.
+fn check_lent(reader: &LineReader)
+    ensures { Room reader.now.reading }
+{}
 
 #[test]
 fn sizes_of_lines(rt: HostRuntime) {
@@ -34,5 +40,6 @@ fn sizes_of_lines(rt: HostRuntime) {
     // a last line, which nothing ends but the input's end
     reader.step(b'\r');
     reader.step(b'\0');
+    check_lent(&reader);
     assert_eq!(rt; size(reader.finished()), Some(2));
 }

@@ -1,4 +1,6 @@
 // Layouts at the edges of what a capacity and an id can be.
+ghost use Rattle.std.specs.Prelude.{◌≤◌};
+
 use layouts::{Capacity, Directed, EdgeType, Undirected};
 use uneven::Uneven;
 
@@ -40,6 +42,29 @@ fn grown<L: EdgeType>(layout: L, node_count: usize) -> usize {
     layout
         .grown_capacity(Capacity::saturating(node_count))
         .get()
+}
+
+// The bound of a capacity behind a reference, which no call tells.
+fn check_lent(capacity: &Capacity)
+    ensures { capacity.now.size ≤ 256 }
+{}
+
+// The bound of one that goes through a loop.
+fn grown_often<L: EdgeType>(layout: L, capacity: Capacity, times: u8) -> Capacity
+    ensures { result.size ≤ 256 }
+{
+    let mut grown = capacity;
+    for _ in 0..times {
+        grown = layout.grown_capacity(grown);
+    }
+    grown
+}
+
+#[test]
+fn a_capacity_keeps_its_bound(rt: HostRuntime) {
+    let capacity = grown_often(Uneven, Capacity::saturating(0), 100);
+    check_lent(&capacity);
+    assert_eq!(rt; capacity.get(), 256);
 }
 
 #[test]

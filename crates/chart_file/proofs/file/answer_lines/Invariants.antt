@@ -6,4 +6,4 @@ use Rattle.chart_file.proofs.Running.{Answering}
 use Rattle.chart_file.proofs.file.answer_lines.Given as goal
 
 abbrev pub invariant-loop-b : goal.invariant-loop-b
-invariant-loop-b l = Answering l.initial.sink l.sink (replies 2 (lines l.input) fresh) l.interpreter.line l.reader (drop l.b-index l.input) l.interpreter.chart l.b-index
+invariant-loop-b l = Answering l.initial.sink l.sink (replies 2 (lines l.input) fresh) l.interpreter.line l.reader.reading (drop l.b-index l.input) l.interpreter.chart l.b-index

@@ -9,5 +9,5 @@ pub returns-in-Some-completed : goal.returns-in-Some-completed
 returns-in-Some-completed c =
     let all = rw c.in-Some.ensures.steps at c.loop-b.invariant.0 in
     let done = c.in-Some-completed.ensures.line ∙ ap completed c.step.ensures.after in
-    let opens = opened_at c.loop-b.reader c.in-Some.b.now (iter_rest c.next.new.self) c.args.input.now _ all done in
+    let opens = opened_at c.loop-b.reader.reading c.in-Some.b.now (iter_rest c.next.new.self) c.args.input.now _ all done in
     grind (arith, common_steps)
