@@ -60,7 +60,10 @@ impl<'a> Sink<'a> {
 fn put(out: &mut [u8], at: usize, text: &[u8])
     ensures { out.new ≡ laid out.old at text.now }
 {
-    if let Some((_before, room)) = out.split_at_mut_checked(at) {
+    // Not by `split_at_mut_checked`, which goes in at the very end too: there may then be nothing to copy, and a byte
+    // took five times as long.
+    if at < out.len() {
+        let (_before, room) = out.split_at_mut(at);
         let n = room.len().min(text.len());
         room[..n].copy_from_slice(&text[..n]);
     }

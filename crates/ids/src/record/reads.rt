@@ -51,7 +51,7 @@ impl IdStorage {
         if !self.is_live(id) {
             return Ok(None);
         }
-        Ok(places.get(usize::from(id)).copied())
+        Ok(Some(places[usize::from(id)]))
     }
 
     // Another weight for a live id: its old weight.

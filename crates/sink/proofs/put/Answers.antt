@@ -3,8 +3,8 @@ use Rattle.std.proofs.lemmas.List.{take_all, drop_all}
 use Rattle.sink.proofs.Laid.{laid_past, laid_after}
 use Rattle.sink.proofs.put.Goals as goal
 
-pub returns-in-Some : goal.returns-in-Some
-returns-in-Some c = grind (arith, take_all, drop_all, laid_after)
+pub returns-then-at-out : goal.returns-then-at-out
+returns-then-at-out c = grind (arith, take_all, drop_all, laid_after)
 
-pub returns-in_default : goal.returns-in_default
-returns-in_default c = search (rules, laid_past)
+pub returns-else-at-out : goal.returns-else-at-out
+returns-else-at-out c = search (rules, laid_past)
