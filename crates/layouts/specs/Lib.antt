@@ -1,4 +1,3 @@
-pub mod Capacities
 pub mod Laws
 pub mod Square
 pub mod Triangle

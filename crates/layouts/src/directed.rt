@@ -58,7 +58,7 @@ impl EdgeType for Directed {
 
 // The least power of two that is at least so many.
 fn least_power(node_count: Capacity) -> usize
-    ensures { result ≡ doubled 8 1 node_count.size }
+    ensures { result ≡ doubled 8 1 node_count.value }
 {
     node_count.get().next_power_of_two()
 }

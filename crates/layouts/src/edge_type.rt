@@ -18,16 +18,16 @@ pub trait EdgeType: Copy {
     ghost wide: { ℕ → ℕ };
 
     fn cell_count(self, capacity: Capacity) -> usize
-        ensures { result ≡ total capacity.size };
+        ensures { result ≡ total capacity.value };
 
     fn to_edge_position(self, capacity: Capacity, row: u8, column: u8) -> Option<usize>
-        ensures { result ≡ place capacity.size row column };
+        ensures { result ≡ place capacity.value row column };
 
     fn to_pair(self, capacity: Capacity, position: usize) -> Option<(u8, u8)>
-        ensures { result ≡ named capacity.size position };
+        ensures { result ≡ named capacity.value position };
 
     fn grown_capacity(self, node_count: Capacity) -> Capacity
-        ensures { result.size ≡ wide node_count.size };
+        ensures { result.value ≡ wide node_count.value };
 
     ghost every_pair: { EveryPair place };
 

@@ -30,8 +30,8 @@ impl EdgeType for Undirected {
     }
 
     fn to_edge_position(self, capacity: Capacity, row: u8, column: u8) -> Option<usize>
-        ensures value { result ≡ place capacity.size row column }
-        ensures mirrored { result ≡ place capacity.size column row }
+        ensures value { result ≡ place capacity.value row column }
+        ensures mirrored { result ≡ place capacity.value column row }
     {
         let larger = usize::from(cmp::max(row, column));
         let smaller = usize::from(cmp::min(row, column));
@@ -42,7 +42,7 @@ impl EdgeType for Undirected {
     }
 
     fn to_pair(self, capacity: Capacity, position: usize) -> Option<(u8, u8)>
-        ensures value { result ≡ named capacity.size position }
+        ensures value { result ≡ named capacity.value position }
         ensures lower { (row column : ℕ) → result ≡ Some (row, column) → column ≤ row }
     {
         if position >= self.cell_count(capacity) {
@@ -61,11 +61,11 @@ impl EdgeType for Undirected {
 
 // The row of a cell below the count: the last that starts at the cell or before.
 fn row_of(capacity: Capacity, position: usize) -> usize
-    requires { position < total capacity.size }
-    ensures value { result ≡ row capacity.size position }
+    requires { position < total capacity.value }
+    ensures value { result ≡ row capacity.value position }
     ensures before { start result ≤ position }
     ensures after { position ≤ start result + result }
-    ensures within { result < capacity.size }
+    ensures within { result < capacity.value }
 {
     // Row 0 starts at cell 0, so only the later rows are searched.
     let starts = &row_starts()[1..capacity.get()];

@@ -1,2 +1,3 @@
 pub mod Giving
 mod Pieces
+pub mod Readers

@@ -18,9 +18,18 @@ fn check_lent(reader: &LineReader)
     ensures { Room reader.now.reading }
 {}
 
+// Two new readers are the same.
+#[tactic(auto, using(crate::proofs::Readers::same_readers))]
+fn new_ones() -> (LineReader, LineReader)
+    ensures { result.0 ≡ result.1 }
+{
+    (LineReader::new(), LineReader::new())
+}
+
 #[test]
 fn sizes_of_lines(rt: HostRuntime) {
-    let mut reader = LineReader::new();
+    let (mut reader, other) = new_ones();
+    assert_eq!(rt; size(other.finished()), None);
     assert_eq!(rt; size(reader.finished()), None);
     for (len, expected) in [
         (0, 0),

@@ -31,9 +31,9 @@ impl EdgeType for Uneven {
     }
 
     fn to_edge_position(self, capacity: Capacity, row: u8, column: u8) -> Option<usize>
-        ensures value { result ≡ place capacity.size row column }
-        ensures mirrored { Outer row column → result ≡ place capacity.size column row }
-        ensures alone { (a b k : ℕ) → result ≡ Some k → place capacity.size a b ≡ Some k → Alike row column a b }
+        ensures value { result ≡ place capacity.value row column }
+        ensures mirrored { Outer row column → result ≡ place capacity.value column row }
+        ensures alone { (a b k : ℕ) → result ≡ Some k → place capacity.value a b ≡ Some k → Alike row column a b }
     {
         let (row, column) = (usize::from(row), usize::from(column));
         if cmp::max(row, column) >= capacity.get() {
@@ -56,9 +56,9 @@ impl EdgeType for Uneven {
 
 // The cell of a pair below the capacity.
 fn cell_of(capacity: Capacity, row: usize, column: usize) -> usize
-    requires row_below { row < capacity.size }
-    requires column_below { column < capacity.size }
-    ensures { result ≡ cell capacity.size row column }
+    requires row_below { row < capacity.value }
+    requires column_below { column < capacity.value }
+    ensures { result ≡ cell capacity.value row column }
 {
     if row == 0 {
         return column;
@@ -72,8 +72,8 @@ fn cell_of(capacity: Capacity, row: usize, column: usize) -> usize
 
 // The pair of a cell below the count.
 fn pair_of(capacity: Capacity, position: usize) -> (u8, u8)
-    requires { position < total capacity.size }
-    ensures { result ≡ pair capacity.size position }
+    requires { position < total capacity.value }
+    ensures { result ≡ pair capacity.value position }
 {
     // Each `as` is exact, as the numbers are below the width, which is at most 256; `try_from` is no plainer: it adds an error that can't occur.
     let width = capacity.get();

@@ -46,12 +46,12 @@ fn grown<L: EdgeType>(layout: L, node_count: usize) -> usize {
 
 // The bound of a capacity behind a reference, which no call tells.
 fn check_lent(capacity: &Capacity)
-    ensures { capacity.now.size ≤ 256 }
+    ensures { capacity.now.value ≤ 256 }
 {}
 
 // The bound of one that goes through a loop.
 fn grown_often<L: EdgeType>(layout: L, capacity: Capacity, times: u8) -> Capacity
-    ensures { result.size ≤ 256 }
+    ensures { result.value ≤ 256 }
 {
     let mut grown = capacity;
     for _ in 0..times {

@@ -8,7 +8,7 @@ use Rattle.rows.proofs.growth.grow.Goals as goal
 pub loop-run-preserved : goal.loop-run-preserved
 loop-run-preserved g c =
     let laws = g.met.L.EdgeType in
-    let grows : Grows g.L.EdgeType c.args.capacity.size c.grown_capacity.result.size = search rules in
+    let grows : Grows g.L.EdgeType c.args.capacity.value c.grown_capacity.result.value = search rules in
     let m = moves laws.every_pair laws.placing laws.growing grows g.C.Nullable in
     let now = c.loop-run in
     let run = c.in-Some.run' in
@@ -19,7 +19,7 @@ loop-run-preserved g c =
 pub returns-clause-cells : goal.returns-clause-cells
 returns-clause-cells g c =
     let laws = g.met.L.EdgeType in
-    let grows : Grows g.L.EdgeType c.args.capacity.size c.grown_capacity.result.size = search rules in
+    let grows : Grows g.L.EdgeType c.args.capacity.value c.grown_capacity.result.value = search rules in
     let m = moves laws.every_pair laws.placing laws.growing grows g.C.Nullable in
     let now = c.loop-run in
     let room = now.invariant.parted.room in

@@ -5,9 +5,9 @@ use Rattle.rows.proofs.growth.grow.Given as goal
 
 abbrev pub invariant-loop-run : goal.invariant-loop-run
 invariant-loop-run g l = record {
-  parted : Parted g.L.EdgeType l.growth.from.size l.growth.to.size l.end l.top;
-  cells : grown_below g.C.Nullable g.L.EdgeType l.growth.from.size l.growth.to.size l.top l.cells
-      ≡ grown g.C.Nullable g.L.EdgeType l.growth.from.size l.growth.to.size l.initial.cells;
+  parted : Parted g.L.EdgeType l.growth.from.value l.growth.to.value l.end l.top;
+  cells : grown_below g.C.Nullable g.L.EdgeType l.growth.from.value l.growth.to.value l.top l.cells
+      ≡ grown g.C.Nullable g.L.EdgeType l.growth.from.value l.growth.to.value l.initial.cells;
 }
 
 abbrev pub decreases-loop-run : goal.decreases-loop-run

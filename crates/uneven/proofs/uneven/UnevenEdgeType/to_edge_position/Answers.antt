@@ -4,4 +4,4 @@ use Rattle.uneven.specs.UnevenLemmas.{alone}
 use Rattle.uneven.proofs.uneven.UnevenEdgeType.to_edge_position.Goals as goal
 
 pub returns-clause-alone : goal.returns-clause-alone
-returns-clause-alone c = λ a b k e f. alone c.args.capacity.size c.args.row c.args.column a b k (grind (arith, nat_tests)) f
+returns-clause-alone c = λ a b k e f. alone c.args.capacity.value c.args.row c.args.column a b k (grind (arith, nat_tests)) f
