@@ -1,3 +1,4 @@
+pub mod Capacities
 pub mod Laws
 pub mod Square
 pub mod Triangle

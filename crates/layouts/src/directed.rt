@@ -1,5 +1,6 @@
 // The square: a cell for each pair, the mirrored one apart.
 ghost use Rattle.std.specs.Prelude.{◌≡◌};
+ghost use Rattle.layouts.specs.Capacities.{size};
 ghost use Rattle.layouts.specs.Square.{doubled, named, place, total, wide};
 ghost use Rattle.layouts.specs.SquareLemmas.{every_pair, growing, placing};
 
@@ -58,7 +59,7 @@ impl EdgeType for Directed {
 
 // The least power of two that is at least so many.
 fn least_power(node_count: Capacity) -> usize
-    ensures { result ≡ doubled 8 1 node_count.value }
+    ensures { result ≡ doubled 8 1 (size node_count) }
 {
     node_count.get().next_power_of_two()
 }

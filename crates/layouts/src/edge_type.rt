@@ -1,4 +1,5 @@
 ghost use Rattle.std.specs.Prelude.{◌≡◌, ℕ, Option};
+ghost use Rattle.layouts.specs.Capacities.{size};
 ghost use Rattle.layouts.specs.Laws.{EveryPair, Growing, Placing};
 
 use crate::Capacity;
@@ -18,16 +19,16 @@ pub trait EdgeType: Copy {
     ghost wide: { ℕ → ℕ };
 
     fn cell_count(self, capacity: Capacity) -> usize
-        ensures { result ≡ total capacity.value };
+        ensures { result ≡ total (size capacity) };
 
     fn to_edge_position(self, capacity: Capacity, row: u8, column: u8) -> Option<usize>
-        ensures { result ≡ place capacity.value row column };
+        ensures { result ≡ place (size capacity) row column };
 
     fn to_pair(self, capacity: Capacity, position: usize) -> Option<(u8, u8)>
-        ensures { result ≡ named capacity.value position };
+        ensures { result ≡ named (size capacity) position };
 
     fn grown_capacity(self, node_count: Capacity) -> Capacity
-        ensures { result.value ≡ wide node_count.value };
+        ensures { size result ≡ wide (size node_count) };
 
     ghost every_pair: { EveryPair place };
 

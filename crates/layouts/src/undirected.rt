@@ -1,5 +1,6 @@
 // The triangle: one cell for a pair and its mirror.
 ghost use Rattle.std.specs.Prelude.{◌≡◌, ℕ, ◌+◌, ◌<◌, ◌≤◌, Some};
+ghost use Rattle.layouts.specs.Capacities.{size};
 ghost use Rattle.layouts.specs.Triangle.{named, place, row, start, total, wide};
 ghost use Rattle.layouts.specs.TriangleLemmas.{every_pair, growing, placing};
 
@@ -30,8 +31,8 @@ impl EdgeType for Undirected {
     }
 
     fn to_edge_position(self, capacity: Capacity, row: u8, column: u8) -> Option<usize>
-        ensures value { result ≡ place capacity.value row column }
-        ensures mirrored { result ≡ place capacity.value column row }
+        ensures value { result ≡ place (size capacity) row column }
+        ensures mirrored { result ≡ place (size capacity) column row }
     {
         let larger = usize::from(cmp::max(row, column));
         let smaller = usize::from(cmp::min(row, column));
@@ -42,7 +43,7 @@ impl EdgeType for Undirected {
     }
 
     fn to_pair(self, capacity: Capacity, position: usize) -> Option<(u8, u8)>
-        ensures value { result ≡ named capacity.value position }
+        ensures value { result ≡ named (size capacity) position }
         ensures lower { (row column : ℕ) → result ≡ Some (row, column) → column ≤ row }
     {
         if position >= self.cell_count(capacity) {
@@ -61,11 +62,11 @@ impl EdgeType for Undirected {
 
 // The row of a cell below the count: the last that starts at the cell or before.
 fn row_of(capacity: Capacity, position: usize) -> usize
-    requires { position < total capacity.value }
-    ensures value { result ≡ row capacity.value position }
+    requires { position < total (size capacity) }
+    ensures value { result ≡ row (size capacity) position }
     ensures before { start result ≤ position }
     ensures after { position ≤ start result + result }
-    ensures within { result < capacity.value }
+    ensures within { result < size capacity }
 {
     // Row 0 starts at cell 0, so only the later rows are searched.
     let starts = &row_starts()[1..capacity.get()];

@@ -1,5 +1,6 @@
 // Growth for any layout, by its laws alone: the cells move in runs that go equally far, the last run first.
 ghost use Rattle.std.specs.Prelude.{◌≡◌, ℕ, ◌-◌, ◌<◌, ◌≤◌, length, IfSome, IfNone};
+ghost use Rattle.layouts.specs.Capacities.{size};
 ghost use Rattle.rows.specs.Rows.{grown, moves_by};
 ghost use Rattle.rows.specs.Runs.{IsRun};
 
@@ -15,9 +16,9 @@ pub fn grow<C: Nullable, L: EdgeType>(
     capacity: Capacity,
     node_count: Capacity,
 ) -> Capacity
-    requires { (capacity.value < node_count.value) × (L.EdgeType.total (L.EdgeType.wide node_count.value) ≤ length cells.old) }
-    ensures capacity { result.value ≡ L.EdgeType.wide node_count.value }
-    ensures cells { cells.new ≡ grown C.Nullable.own L.EdgeType capacity.value (L.EdgeType.wide node_count.value) cells.old }
+    requires { (size capacity < size node_count) × (L.EdgeType.total (L.EdgeType.wide (size node_count)) ≤ length cells.old) }
+    ensures capacity { size result ≡ L.EdgeType.wide (size node_count) }
+    ensures cells { cells.new ≡ grown C.Nullable.own L.EdgeType (size capacity) (L.EdgeType.wide (size node_count)) cells.old }
 {
     let growth = Growth {
         layout,
@@ -46,8 +47,8 @@ struct Growth<L> {
 impl<L: EdgeType> Growth<L> {
     // The run that ends at `end`, unless its cells stay.
     fn last_run(self, end: usize) -> Option<Run>
-        ensures some { IfSome result (λ run. (run.end ≡ end) × IsRun L.EdgeType self.from.value self.to.value run.start end run.shift) }
-        ensures none { IfNone result (0 < end → moves_by L.EdgeType self.from.value self.to.value (end - 1) ≡ 0) }
+        ensures some { IfSome result (λ run. (run.end ≡ end) × IsRun L.EdgeType (size self.from) (size self.to) run.start end run.shift) }
+        ensures none { IfNone result (0 < end → moves_by L.EdgeType (size self.from) (size self.to) (end - 1) ≡ 0) }
     {
         let last = end.checked_sub(1)?;
         let shift = self.shift(last);
@@ -60,7 +61,7 @@ impl<L: EdgeType> Growth<L> {
 
     // How far up a cell goes.
     fn shift(self, position: usize) -> usize
-        ensures { result ≡ moves_by L.EdgeType self.from.value self.to.value position }
+        ensures { result ≡ moves_by L.EdgeType (size self.from) (size self.to) position }
     {
         self.layout
             .to_pair(self.from, position)
@@ -70,10 +71,10 @@ impl<L: EdgeType> Growth<L> {
 
     // A cell that goes so far, or farther, where the one before it does not.
     fn run_start(self, position: usize, distance: usize) -> usize
-        requires { distance ≤ moves_by L.EdgeType self.from.value self.to.value position }
+        requires { distance ≤ moves_by L.EdgeType (size self.from) (size self.to) position }
         ensures within { result ≤ position }
-        ensures here { distance ≤ moves_by L.EdgeType self.from.value self.to.value result }
-        ensures before { 0 < result → moves_by L.EdgeType self.from.value self.to.value (result - 1) < distance }
+        ensures here { distance ≤ moves_by L.EdgeType (size self.from) (size self.to) result }
+        ensures before { 0 < result → moves_by L.EdgeType (size self.from) (size self.to) (result - 1) < distance }
     {
         // By halves: `partition_point` would need a slice of the distances, and there is no heap to hold one.
         let mut low = 0;

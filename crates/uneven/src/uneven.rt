@@ -1,5 +1,6 @@
 // Row 0 and column 0 are one; every other pair has a cell of its own.
 ghost use Rattle.std.specs.Prelude.{◌≡◌, ℕ, ◌<◌, Some};
+ghost use Rattle.layouts.specs.Capacities.{size};
 ghost use Rattle.uneven.specs.Uneven.{Alike, Outer, cell, named, pair, place, total, wide};
 ghost use Rattle.uneven.specs.UnevenLemmas.{every_pair, growing, placing};
 
@@ -31,9 +32,9 @@ impl EdgeType for Uneven {
     }
 
     fn to_edge_position(self, capacity: Capacity, row: u8, column: u8) -> Option<usize>
-        ensures value { result ≡ place capacity.value row column }
-        ensures mirrored { Outer row column → result ≡ place capacity.value column row }
-        ensures alone { (a b k : ℕ) → result ≡ Some k → place capacity.value a b ≡ Some k → Alike row column a b }
+        ensures value { result ≡ place (size capacity) row column }
+        ensures mirrored { Outer row column → result ≡ place (size capacity) column row }
+        ensures alone { (a b k : ℕ) → result ≡ Some k → place (size capacity) a b ≡ Some k → Alike row column a b }
     {
         let (row, column) = (usize::from(row), usize::from(column));
         if cmp::max(row, column) >= capacity.get() {
@@ -56,9 +57,9 @@ impl EdgeType for Uneven {
 
 // The cell of a pair below the capacity.
 fn cell_of(capacity: Capacity, row: usize, column: usize) -> usize
-    requires row_below { row < capacity.value }
-    requires column_below { column < capacity.value }
-    ensures { result ≡ cell capacity.value row column }
+    requires row_below { row < size capacity }
+    requires column_below { column < size capacity }
+    ensures { result ≡ cell (size capacity) row column }
 {
     if row == 0 {
         return column;
@@ -72,8 +73,8 @@ fn cell_of(capacity: Capacity, row: usize, column: usize) -> usize
 
 // The pair of a cell below the count.
 fn pair_of(capacity: Capacity, position: usize) -> (u8, u8)
-    requires { position < total capacity.value }
-    ensures { result ≡ pair capacity.value position }
+    requires { position < total (size capacity) }
+    ensures { result ≡ pair (size capacity) position }
 {
     // Each `as` is exact, as the numbers are below the width, which is at most 256; `try_from` is no plainer: it adds an error that can't occur.
     let width = capacity.get();

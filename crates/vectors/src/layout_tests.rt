@@ -1,5 +1,6 @@
 // Layouts at the edges of what a capacity and an id can be.
 ghost use Rattle.std.specs.Prelude.{◌≤◌};
+ghost use Rattle.layouts.specs.Capacities.{size};
 
 use layouts::{Capacity, Directed, EdgeType, Undirected};
 use uneven::Uneven;
@@ -46,12 +47,12 @@ fn grown<L: EdgeType>(layout: L, node_count: usize) -> usize {
 
 // The bound of a capacity behind a reference, which no call tells.
 fn check_lent(capacity: &Capacity)
-    ensures { capacity.now.value ≤ 256 }
+    ensures { size capacity.now ≤ 256 }
 {}
 
 // The bound of one that goes through a loop.
 fn grown_often<L: EdgeType>(layout: L, capacity: Capacity, times: u8) -> Capacity
-    ensures { result.value ≤ 256 }
+    ensures { size result ≤ 256 }
 {
     let mut grown = capacity;
     for _ in 0..times {
